@@ -1,0 +1,57 @@
+-- A packed answer reads back where its numbers fit their bits.
+use mathlib.Core.Path.{_≡_, refl, sym, ap, ap₂, _∙_}
+use mathlib.Core.Bool.{Bool, true, false, cond}
+use mathlib.Core.List.{List, [], _∷_}
+use Prim.Native.Nat.{ℕ, _+_, _-_, _*_, _/_, _%_, _^_, _≤_, _<_}
+use native.Mathlib.Omega.{arith}
+use lib.Dec.{leb}
+use lib.ListN.{length}
+use Rattle.std.proofs.shelf.Tests.{le-leb, lt-leb}
+use Rattle.clock.specs.Laws.{Fits-fields}
+use Rattle.clock.specs.Packed.{packed, unpacked}
+use Rattle.clock.specs.Search.{Answer, searched}
+use Rattle.clock.specs.Search.Answer.{setting, refused}
+use Rattle.clock.specs.declared.divider.ClockDivider.{ClockDivider}
+use Rattle.clock.proofs.Sources.{search-law}
+
+-- a setting of one of three sources, whose divider fits the register fields
+abbrev pub Fits-word : Answer → Type 0
+Fits-word a = (i : ℕ) (d : ClockDivider) → setting i d ≡ a → (i < 3) × Fits-fields d
+
+setting-reads : (i : ℕ) (d : ClockDivider) → i < 3 → Fits-fields d → unpacked (packed (setting i d)) ≡ setting i d
+setting-reads i d lt fits =
+    let w = packed (setting i d) in
+    let n = d .«div_num» in
+    let b = d .«div_b» in
+    let a = d .«div_a» in
+    let hn = fits .num-fits in
+    let hb = fits .b-fits in
+    let ha = fits .a-fits in
+    let test : leb (2 ^ 31) w ≡ false = lt-leb _ _ (omega arith) in
+    let en : w % 2 ^ 8 ≡ n = omega arith in
+    let above-n : w / 2 ^ 8 ≡ (i + 1) * 4096 + a * 64 + b = omega arith in
+    let above-b : w / 2 ^ 14 ≡ (i + 1) * 64 + a = omega arith in
+    let low-b : ((i + 1) * 4096 + a * 64 + b) % 2 ^ 6 ≡ b = omega arith in
+    let low-a : ((i + 1) * 64 + a) % 2 ^ 6 ≡ a = omega arith in
+    let eb : w / 2 ^ 8 % 2 ^ 6 ≡ b = ap (λ (q : ℕ). q % 2 ^ 6) above-n ∙ low-b in
+    let ea : w / 2 ^ 14 % 2 ^ 6 ≡ a = ap (λ (q : ℕ). q % 2 ^ 6) above-b ∙ low-a in
+    let ei : w / 2 ^ 20 - 1 ≡ i = omega arith in
+    rw test (λ k. setting (ei k) (record { «div_num» = en k; «div_b» = eb k; «div_a» = ea k }))
+
+refused-reads : (n : ℕ) → unpacked (packed (refused n)) ≡ refused n
+refused-reads n =
+    let test : leb (2 ^ 31) (2 ^ 31 + n) ≡ true = le-leb _ _ (omega arith) in
+    let en : 2 ^ 31 + n - 2 ^ 31 ≡ n = omega arith in
+    rw test (ap refused en)
+
+reads-back : (a : Answer) → Fits-word a → unpacked (packed a) ≡ a
+reads-back (setting i d) fits = let f = fits i d refl in setting-reads i d (f .0) (f .1)
+reads-back (refused n) fits = refused-reads n
+
+pub three-fit : (r x y z : ℕ) → Fits-word (searched r (x ∷ (y ∷ (z ∷ []))))
+three-fit r x y z i d e =
+    let best = search-law r (x ∷ (y ∷ (z ∷ []))) .best i d (sym e) in
+    (best .known-source, best .fits-the-fields)
+
+pub three-read-back : (r x y z : ℕ) → unpacked (packed (searched r (x ∷ (y ∷ (z ∷ []))))) ≡ searched r (x ∷ (y ∷ (z ∷ [])))
+three-read-back r x y z = reads-back (searched r (x ∷ (y ∷ (z ∷ [])))) (three-fit r x y z)

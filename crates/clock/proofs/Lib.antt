@@ -1,0 +1,11 @@
+pub mod Euclid
+pub mod Walk
+pub mod Between
+pub mod Outputs
+pub mod Linked
+pub mod Terms
+pub mod Fractions
+pub mod OneSource
+pub mod Sources
+pub mod Scaled
+pub mod Bits

@@ -1,0 +1,8 @@
+use mathlib.Core.Path.{refl}
+use Rattle.clock.specs.Farey.{F63}
+use Rattle.clock.specs.Search.{best-from}
+use Rattle.clock.proofs.laws.cases_hold.Needs as need
+
+pub returns : need.returns
+unfolding F63 best-from
+returns c = refl

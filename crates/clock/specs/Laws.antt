@@ -1,0 +1,70 @@
+-- What users count on, in the words of clocks and fractions, of all that the rules give.
+use mathlib.Core.Path.{_≡_}
+use mathlib.Core.Logic.{_↔_}
+use mathlib.Core.List.{List}
+use Prim.Native.Nat.{ℕ, _+_, _*_, _/_, _≤_, _<_, _∣_}
+use lib.ListN.{length, getD}
+use Rattle.std.specs.declared.option.Option.{Option}
+use Rattle.std.specs.declared.option.Option.the-variants.{Some, None}
+use Rattle.clock.specs.Divider.{hertz, Not-above, Allowed}
+use Rattle.clock.specs.Search.{Answer}
+use Rattle.clock.specs.Search.Answer.{setting, refused}
+use Rattle.clock.specs.declared.fraction.Fraction.{Fraction}
+use Rattle.clock.specs.declared.divider.ClockDivider.{ClockDivider}
+use Rattle.clock.specs.declared.search.ClosestDivider.{ClosestDivider}
+
+-- a fraction from 0/1 to 1/1 in lowest terms with a denominator up to 63
+pub record Small-fraction (t : Fraction) : Type 0 where
+  pub denominator-positive : 1 ≤ t .denominator
+  pub denominator-small : t .denominator ≤ 63
+  pub at-most-one : t .numerator ≤ t .denominator
+  pub lowest-terms : (k : ℕ) → k ∣ t .numerator → k ∣ t .denominator → k ≡ 1
+
+abbrev pub place : List Fraction → ℕ → Fraction
+place ts k = getD ts k (record { numerator = 0; denominator = 0 })
+
+-- a list has every such fraction, nothing else, and each below the next, so that it has each once
+pub record All-small-fractions (ts : List Fraction) : Type 0 where
+  pub in-all : length ts ≡ 1229
+  pub small : (k : ℕ) → k < length ts → Small-fraction (place ts k)
+  pub ascending : (k : ℕ) → k + 1 < length ts →
+      place ts k .numerator * place ts (k + 1) .denominator < place ts (k + 1) .numerator * place ts k .denominator
+  pub complete : (t : Fraction) → Small-fraction t → (k : ℕ) × (k < length ts) × (place ts k ≡ t)
+
+-- a divider fits the register fields: 8 bits for `div_num`, 6 bits each for `div_b` and `div_a`
+pub record Fits-fields (d : ClockDivider) : Type 0 where
+  pub num-fits : d .«div_num» < 256
+  pub b-fits : d .«div_b» < 64
+  pub a-fits : d .«div_a» < 64
+
+-- a divider of the source s for the frequency r: its output is not above r, and no allowed one that is not above
+-- has more whole hertz
+pub record From-below (s r : ℕ) (d : ClockDivider) : Type 0 where
+  pub never-above-asked : Not-above s d r
+  pub none-comes-closer : (e : ClockDivider) → Allowed e → Not-above s e r → hertz s e ≤ hertz s d
+
+-- one source serves exactly where the quotient is at most 256
+abbrev pub Closest-from-below : ℕ → ℕ → Option ClosestDivider → Type 0
+Closest-from-below s r None = 256 < s / r
+Closest-from-below s r (Some c) = (s / r ≤ 256) × From-below s r (c .divider) × Fits-fields (c .divider)
+
+-- the setting of a list of sources: its output is not above r, no allowed setting of any source that is not above
+-- has more whole hertz, and one of an earlier source has fewer
+pub record Best-from-below (r : ℕ) (ss : List ℕ) (i : ℕ) (d : ClockDivider) : Type 0 where
+  pub known-source : i < length ss
+  pub fits-the-fields : Fits-fields d
+  pub never-above-asked : Not-above (getD ss i 0) d r
+  pub none-comes-closer : (j : ℕ) (e : ClockDivider) → j < length ss → Allowed e → Not-above (getD ss j 0) e r
+      → hertz (getD ss j 0) e ≤ hertz (getD ss i 0) d
+  pub earlier-on-a-tie : (j : ℕ) (e : ClockDivider) → j < i → Allowed e → Not-above (getD ss j 0) e r
+      → hertz (getD ss j 0) e < hertz (getD ss i 0) d
+
+-- every source is at least 257 times the frequency; so it is where there is no source
+abbrev pub All-too-fast : ℕ → List ℕ → Type 0
+All-too-fast r ss = (j : ℕ) → j < length ss → 257 * r ≤ getD ss j 0
+
+-- what holds of every answer: it refuses exactly where it has to, and any other answer is the best from below
+pub record Search-law (r : ℕ) (ss : List ℕ) (a : Answer) : Type 0 where
+  pub refuses-zero : (a ≡ refused 1) ↔ (r ≡ 0)
+  pub refuses-too-low : (a ≡ refused 3) ↔ ((0 < r) × All-too-fast r ss)
+  pub best : (i : ℕ) (d : ClockDivider) → a ≡ setting i d → Best-from-below r ss i d

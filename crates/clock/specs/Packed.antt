@@ -1,0 +1,19 @@
+-- An answer of the search as one u32, for callers in C and Rust.
+use mathlib.Core.Bool.{cond}
+use Prim.Native.Nat.{ℕ, _+_, _-_, _*_, _/_, _%_, _^_}
+use lib.Dec.{leb}
+use Rattle.clock.specs.Search.{Answer}
+use Rattle.clock.specs.Search.Answer.{setting, refused}
+use Rattle.clock.specs.declared.divider.ClockDivider.{ClockDivider}
+
+-- bits 0 to 7 have `div_num`, 8 to 13 `div_b`, 14 to 19 `div_a`, 20 and 21 the index plus 1;
+-- a refusal is 2^31 plus its number
+abbrev pub packed : Answer → ℕ
+packed (setting i d) = d .«div_num» + d .«div_b» * 2 ^ 8 + d .«div_a» * 2 ^ 14 + (i + 1) * 2 ^ 20
+packed (refused n) = 2 ^ 31 + n
+
+abbrev pub unpacked : ℕ → Answer
+unpacked w =
+    cond (leb (2 ^ 31) w) (refused (w - 2 ^ 31))
+    (setting (w / 2 ^ 20 - 1)
+    (record { «div_num» = w % 2 ^ 8; «div_b» = w / 2 ^ 8 % 2 ^ 6; «div_a» = w / 2 ^ 14 % 2 ^ 6 }))

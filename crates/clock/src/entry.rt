@@ -1,0 +1,40 @@
+// The search for callers in C and Rust: numbers in, one packed number out.
+ghost use mathlib.Core.Path.{_≡_};
+ghost use mathlib.Core.List.{[], _∷_};
+ghost use Prim.Native.Nat.{_<_};
+ghost use Rattle.clock.specs.Laws.{Search-law, Fits-fields};
+ghost use Rattle.clock.specs.Packed.{packed, unpacked};
+ghost use Rattle.clock.specs.Search.{searched};
+ghost use Rattle.clock.specs.Search.Answer.{setting};
+use crate::divider::ClockDivider;
+use crate::laws::packed_reads_back;
+use crate::search::calculate_clkm;
+
+/// The source and the divider for a frequency, over the three sources of LCD_CAM in the order of clk_sel.
+///
+/// Bits 0 to 7 have `div_num`, 8 to 13 `div_b`, 14 to 19 `div_a`, 20 and 21 the source's index plus 1.
+/// A refusal is 2,147,483,648 plus its number.
+#[unsafe(no_mangle)]
+pub extern "C" fn lcd_cam_calculate_clkm(frequency: u32, xtal: u32, pll_d2: u32, crypto: u32) -> u32
+    ensures packed { λ r. ⌜ r ≡ packed (searched frequency (xtal ∷ («pll_d2» ∷ (crypto ∷ [])))) ⌝ }
+    ensures unpacked { λ r. ⌜ unpacked r ≡ searched frequency (xtal ∷ («pll_d2» ∷ (crypto ∷ []))) ⌝ }
+    ensures law { λ _. ⌜ Search-law frequency (xtal ∷ («pll_d2» ∷ (crypto ∷ []))) (searched frequency (xtal ∷ («pll_d2» ∷ (crypto ∷ [])))) ⌝ }
+{
+    packed_reads_back(frequency, xtal, pll_d2, crypto);
+    match calculate_clkm(frequency, &[xtal, pll_d2, crypto]) {
+        Ok((index, divider)) => pack(index, &divider),
+        Err(error) => 0x8000_0000 + error.number(),
+    }
+}
+
+// A setting of one of three sources, whose divider fits the register fields.
+fn pack(index: usize, divider: &ClockDivider) -> u32
+    requires { ⌜ index < 3 ⌝ ∗ ⌜ Fits-fields (now divider) ⌝ }
+    ensures { λ r. ⌜ r ≡ packed (setting index (now (divider .entry))) ⌝ }
+{
+    let source = index as u32 + 1;
+    divider.div_num as u32
+        + ((divider.div_b as u32) << 8)
+        + ((divider.div_a as u32) << 14)
+        + (source << 20)
+}
