@@ -27,7 +27,7 @@ use Rattle.clock.specs.Farey.{F63}
 use Rattle.clock.specs.Closest.{least-term}
 use Rattle.clock.specs.Laws.{place, Small-fraction, All-small-fractions}
 use Rattle.clock.specs.declared.fraction.Fraction.{Fraction}
-use Rattle.clock.specs.declared.search.Term.{Term}
+use Rattle.clock.specs.declared.closest.Term.{Term}
 use Rattle.clock.proofs.Linked.{Linked, Ranges, Next, F63-linked}
 use Rattle.clock.proofs.Outputs.{cancel}
 use Rattle.clock.proofs.Terms.{Found, least-term-found, least-term-least, least-term-some}

@@ -1,7 +1,7 @@
 -- The divider that the rules give for one source comes closest from below.
 use mathlib.Core.Path.{_≡_, refl, sym, ap, subst, subst₃, _∙_}
 use mathlib.Core.Bool.{Bool, true, false, cond, _||_}
-use mathlib.Core.Logic.{⊎-elim}
+use mathlib.Core.Logic.{inl, inr, ⊎-elim}
 use Prim.Native.Nat.{ℕ, zero, suc, _+_, _*_, _/_, _%_, _≤_, _<_}
 use native.Mathlib.Nat.{mul-le-mul-left, mul-le-mul-right, div-add-mod', div-mul-le-self, mod-lt, mul-lt-mul-of-pos-right, mul-pos}
 use native.Mathlib.Omega.{arith}
@@ -13,11 +13,18 @@ use Rattle.std.proofs.shelf.Tests.{false≢true, cases-order, cases-lt, cond-bo
 use Rattle.std.proofs.shelf.Ways.{tells}
 use Rattle.clock.specs.Divider.{hertz, Not-above, Allowed, whole-part, numerator, denominator, divisor}
 use Rattle.clock.specs.Closest.{closest, divided, undivided, with-term, least-term, stored}
-use Rattle.clock.specs.Laws.{Fits-fields, From-below, Closest-from-below}
+use Rattle.clock.specs.Laws.{Fits-fields, From-below, Counts-its-place, Closest-from-below}
 use Rattle.clock.specs.declared.divider.ClockDivider.{ClockDivider}
-use Rattle.clock.specs.declared.search.Term.{Term}
+use Rattle.clock.specs.declared.closest.ClosestDivider.{ClosestDivider}
+use Rattle.clock.specs.declared.closest.Term.{Term}
 use Rattle.clock.proofs.Outputs.{cancel, hertz-falls}
 use Rattle.clock.proofs.Terms.{Found, Least, least-term-found, least-term-least, least-term-some}
+
+-- what holds of one source, by cases
+abbrev pub Closest-cases : ℕ → ℕ → Option ClosestDivider → Type 0
+Closest-cases s r None = 256 < s / r
+Closest-cases s r (Some c) =
+    (s / r ≤ 256) × From-below s r (c .divider) × Fits-fields (c .divider) × Counts-its-place c
 
 -- an allowed divider whose output is not above r is not below the divisor (N a + b)/a, in whole products
 abbrev Not-below-divisor : ℕ → ℕ → ℕ → ℕ → ℕ → Type 0
@@ -136,7 +143,7 @@ module _ (s r : ℕ) (pos : 0 < r) (many : 2 ≤ s / r) (few : s / r ≤ 256) wh
       (most b a pa (f .ranges .proper) (f .reached) (least-term-least (s % r) r u some e))
 
   by-term : (o : Option Term) → least-term (s % r) r ≡ o → 0 < s % r
-      → Closest-from-below s r (with-term (stored (s / r)) o)
+      → Closest-cases s r (with-term (stored (s / r)) o)
   by-term None e some =
       absurd
       (false≢true
@@ -150,22 +157,42 @@ module _ (s r : ℕ) (pos : 0 < r) (many : 2 ≤ s / r) (few : s / r ≤ 256) wh
           b-fits = omega (arith, f .ranges .small, f .ranges .proper);
           a-fits = omega (arith, f .ranges .small);
         },
+        inr (f .at, f .within, omega (arith, f .counted), f .here),
       )
 
-  by-remainder : Closest-from-below s r (divided s r)
+  by-remainder : Closest-cases s r (divided s r)
   by-remainder =
       cond-both (eqb (s % r) 0) (undivided (stored (s / r))) (with-term (stored (s / r)) (least-term (s % r) r))
-      (Closest-from-below s r) (λ e. (few, exact (eqb-true _ _ e), plain-fits (stored (s / r)) (stored-fits (s / r) few)))
+      (Closest-cases s r) (λ e. (few, exact (eqb-true _ _ e), plain-fits (stored (s / r)) (stored-fits (s / r) few), inl (refl, refl)))
       (λ e. by-term (least-term (s % r) r) refl (omega (arith, eqb-false _ _ e)))
 
-pub closest-from-below : (s r : ℕ) → 0 < r → Closest-from-below s r (closest s r)
-closest-from-below s r pos =
+pub closest-cases : (s r : ℕ) → 0 < r → Closest-cases s r (closest s r)
+closest-cases s r pos =
     cond-both (eqb r 0) None
     (cond (ltb (s / r) 2) (undivided 1) (cond (ltb 256 (s / r)) None (divided s r)))
-    (Closest-from-below s r) (λ e. absurd (omega (arith, eqb-true _ _ e)))
+    (Closest-cases s r) (λ e. absurd (omega (arith, eqb-true _ _ e)))
     (λ _.
-    cond-both (ltb (s / r) 2) (undivided 1) (cond (ltb 256 (s / r)) None (divided s r)) (Closest-from-below s r)
-    (λ e. let less = ltb-true _ _ e in (omega arith, halved s r less pos, plain-fits 1 (omega arith)))
+    cond-both (ltb (s / r) 2) (undivided 1) (cond (ltb 256 (s / r)) None (divided s r)) (Closest-cases s r)
+    (λ e. let less = ltb-true _ _ e in (omega arith, halved s r less pos, plain-fits 1 (omega arith), inl (refl, refl)))
     (λ e.
-    cond-both (ltb 256 (s / r)) None (divided s r) (Closest-from-below s r) (λ f. ltb-true _ _ f)
+    cond-both (ltb 256 (s / r)) None (divided s r) (Closest-cases s r) (λ f. ltb-true _ _ f)
     (λ f. by-remainder s r pos (ltb-false _ _ e) (ltb-false _ _ f))))
+
+by-cases : (s r : ℕ) (o : Option ClosestDivider) → Closest-cases s r o → Closest-from-below s r o
+by-cases s r None law =
+    record {
+      too-fast = (λ _. law, λ _. refl);
+      from-below = λ c e. absurd (let z : _≡_ {A = ℕ} 0 1 = cc in omega arith);
+      fits-the-fields = λ c e. absurd (let z : _≡_ {A = ℕ} 0 1 = cc in omega arith);
+      counts-its-place = λ c e. absurd (let z : _≡_ {A = ℕ} 0 1 = cc in omega arith);
+    }
+by-cases s r (Some c) law =
+    record {
+      too-fast = (λ e. absurd (let z : _≡_ {A = ℕ} 0 1 = cc in omega arith), λ over. absurd (omega (arith, law .0)));
+      from-below = λ d e. let same : c ≡ d = cc in rw (← same) (law .1);
+      fits-the-fields = λ d e. let same : c ≡ d = cc in rw (← same) (law .2);
+      counts-its-place = λ d e. let same : c ≡ d = cc in subst Counts-its-place same (law .3);
+    }
+
+pub closest-from-below : (s r : ℕ) → 0 < r → Closest-from-below s r (closest s r)
+closest-from-below s r pos = by-cases s r (closest s r) (closest-cases s r pos)

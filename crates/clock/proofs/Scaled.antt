@@ -11,7 +11,6 @@ use Rattle.clock.specs.Closest.{first-not-below, least-term, not-below}
 use Rattle.clock.specs.Divisors.{Greatest-common-divisor}
 use Rattle.clock.specs.Farey.{F63}
 use Rattle.clock.specs.declared.fraction.Fraction.{Fraction}
-use Rattle.clock.proofs.Outputs.{cancel}
 
 -- a test by products gives the same with both sides taken g times
 scaled-by : (g x y n d : ℕ) → 0 < g → (b : Bool) → leb (x * d) (n * y) ≡ b → leb (g * x * d) (n * (g * y)) ≡ b
@@ -46,6 +45,3 @@ module _ (n d g : ℕ) (pos : 0 < d) (h : Greatest-common-divisor n d g) where
 
   pub zero-to : n ≡ 0 → n / g ≡ 0
   zero-to e = ap (λ (x : ℕ). x / g) e ∙ div-eq-of-lt factor-positive
-
-  pub stays-proper : n ≤ d → n / g ≤ d / g
-  stays-proper le = cancel (n / g) (d / g) g factor-positive (omega (arith, whole-n, whole-d))

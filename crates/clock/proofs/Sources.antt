@@ -26,11 +26,11 @@ use Rattle.clock.specs.Divider.{hertz, Not-above, Allowed}
 use Rattle.clock.specs.Closest.{closest}
 use Rattle.clock.specs.Search.{nothing, considered, best-from, answered, searched, Answer}
 use Rattle.clock.specs.Search.Answer.{setting, refused}
-use Rattle.clock.specs.Laws.{From-below, Closest-from-below, Best-from-below, All-too-fast, Search-law}
+use Rattle.clock.specs.Laws.{From-below, Best-from-below, All-too-fast, Search-law}
 use Rattle.clock.specs.declared.divider.ClockDivider.{ClockDivider}
 use Rattle.clock.specs.declared.search.Best.{Best}
-use Rattle.clock.specs.declared.search.ClosestDivider.{ClosestDivider}
-use Rattle.clock.proofs.OneSource.{closest-from-below, allowed-serves}
+use Rattle.clock.specs.declared.closest.ClosestDivider.{ClosestDivider}
+use Rattle.clock.proofs.OneSource.{Closest-cases, closest-cases, allowed-serves}
 
 -- the sources are given by their index
 module _ (r : ℕ) (at : ℕ → ℕ) where
@@ -133,28 +133,28 @@ module _ (r : ℕ) (ss : List ℕ) (pos : 0 < r) where
 
   -- so it is for an allowed divider whose output is not above
   server : (j : ℕ) (e : ClockDivider) → Allowed e → Not-above (source j) e r → (o : Option ClosestDivider)
-      → Closest-from-below (source j) r o → Server j e o
+      → Closest-cases (source j) r o → Server j e o
   server j e allowed above None law = absurd (omega (arith, law, allowed-serves (source j) r pos e allowed above))
   server j e allowed above (Some c) law = (c, refl, law .1 .none-comes-closer e allowed above)
 
   best-of-all : (h : ℕ) (x : ℕ × ClockDivider) → Winner r source (length ss) h x → Best-from-below r ss (x .0) (x .1)
   unfolding source
   best-of-all h x w =
-      let law : Closest-from-below (source (x .0)) r (Some (record { divider = x .1; count = w .count })) =
-      subst (Closest-from-below (source (x .0)) r) (w .serves) (closest-from-below (source (x .0)) r pos) in
+      let law : Closest-cases (source (x .0)) r (Some (record { divider = x .1; count = w .count })) =
+      subst (Closest-cases (source (x .0)) r) (w .serves) (closest-cases (source (x .0)) r pos) in
       record {
         known-source = w .known;
         fits-the-fields = law .2;
         never-above-asked = law .1 .never-above-asked;
         none-comes-closer = λ j e lt allowed above.
-            let s : Server j e (closest (source j) r) = server j e allowed above _ (closest-from-below (source j) r pos) in
+            let s : Server j e (closest (source j) r) = server j e allowed above _ (closest-cases (source j) r pos) in
             omega (arith, w .most j (s .0) lt (s .1), s .2, w .has);
         earlier-on-a-tie = λ j e lt allowed above.
-            let s : Server j e (closest (source j) r) = server j e allowed above _ (closest-from-below (source j) r pos) in
+            let s : Server j e (closest (source j) r) = server j e allowed above _ (closest-cases (source j) r pos) in
             omega (arith, w .first j (s .0) lt (s .1), s .2, w .has);
       }
 
-  too-fast : (j : ℕ) → (o : Option ClosestDivider) → Closest-from-below (source j) r o → o ≡ None → 257 * r ≤ source j
+  too-fast : (j : ℕ) → (o : Option ClosestDivider) → Closest-cases (source j) r o → o ≡ None → 257 * r ≤ source j
   too-fast j None law e = omega (arith, mul-le-mul-right r law, div-mul-le-self (source j) r)
   too-fast j (Some c) law e = absurd (let z : _≡_ {A = ℕ} 0 1 = cc in omega arith)
 
@@ -165,14 +165,14 @@ module _ (r : ℕ) (ss : List ℕ) (pos : 0 < r) where
       record {
         refuses-zero = (λ e. absurd (let z : _≡_ {A = ℕ} 3 1 = cc in omega arith), λ e. absurd (omega arith));
         refuses-too-low = (
-          λ _. (pos, λ j lt. too-fast j (closest (source j) r) (closest-from-below (source j) r pos) (so j lt)),
+          λ _. (pos, λ j lt. too-fast j (closest (source j) r) (closest-cases (source j) r pos) (so j lt)),
           λ _. refl,
         );
         best = λ i d e. absurd (let z : _≡_ {A = ℕ} 0 1 = cc in omega arith);
       }
   by-found h (Some x) w =
-      let law : Closest-from-below (source (x .0)) r (Some (record { divider = x .1; count = w .count })) =
-      subst (Closest-from-below (source (x .0)) r) (w .serves) (closest-from-below (source (x .0)) r pos) in
+      let law : Closest-cases (source (x .0)) r (Some (record { divider = x .1; count = w .count })) =
+      subst (Closest-cases (source (x .0)) r) (w .serves) (closest-cases (source (x .0)) r pos) in
       record {
         refuses-zero = (λ e. absurd (let z : _≡_ {A = ℕ} 0 1 = cc in omega arith), λ e. absurd (omega arith));
         refuses-too-low = (
@@ -212,12 +212,19 @@ search-law r ss =
     let end = run r at ss 0 nothing (λ j lt. ap at (sym (zero-add j))) (λ j lt. absurd (omega arith)) in
     by-found r ss pos _ _ (subst (λ k. So-far r at k (best-from r 0 ss nothing .result) (best-from r 0 ss nothing .freq)) (zero-add (length ss)) end))
 
--- one turn of the search takes the next source
-pub one-turn : (r : ℕ) (ss : List ℕ) (i : ℕ) (best : Best) → i < length ss
-    → best-from r i (drop i ss) best
-    ≡ best-from r (i + 1) (drop (i + 1) ss) (considered i (getD ss i 0) (closest (getD ss i 0) r) best)
+-- one turn of the search takes the next source, and what comes of all of them stays
+pub one-turn : (r : ℕ) (ss : List ℕ) (i : ℕ) (o : Option ClosestDivider) (best next all : Best) → i < length ss
+    → o ≡ closest (getD ss i 0) r → next ≡ considered i (getD ss i 0) o best → best-from r i (drop i ss) best ≡ all
+    → best-from r (i + 1) (drop (i + 1) ss) next ≡ all
 unfolding best-from
-one-turn r ss i best lt = ap (λ (xs : List ℕ). best-from r i xs best) (drop-more ss i 0 lt)
+one-turn r ss i o best next all lt eo en before =
+    let s = getD ss i 0 in
+    let turn : best-from r i (drop i ss) best
+    ≡ best-from r (i + 1) (drop (i + 1) ss) (considered i s (closest s r) best) =
+    ap (λ (xs : List ℕ). best-from r i xs best) (drop-more ss i 0 lt) in
+    let same : next ≡ considered i s (closest s r) best =
+    en ∙ ap (λ (x : Option ClosestDivider). considered i s x best) eo in
+    ap (best-from r (i + 1) (drop (i + 1) ss)) same ∙ (sym turn ∙ before)
 
 -- past the last source nothing changes
 pub no-turn : (r : ℕ) (ss : List ℕ) (i : ℕ) (best : Best) → length ss ≤ i → best-from r i (drop i ss) best ≡ best

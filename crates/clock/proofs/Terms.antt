@@ -16,7 +16,7 @@ use Rattle.clock.specs.Farey.{F63, terms-from, first-terms}
 use Rattle.clock.specs.Closest.{first-not-below, not-below, least-term}
 use Rattle.clock.specs.Laws.{place}
 use Rattle.clock.specs.declared.fraction.Fraction.{Fraction}
-use Rattle.clock.specs.declared.search.Term.{Term}
+use Rattle.clock.specs.declared.closest.Term.{Term}
 use Rattle.clock.proofs.Between.{none-between, below-through}
 use Rattle.clock.proofs.Linked.{Linked, Ranges, Next, linked-ranges, F63-linked}
 

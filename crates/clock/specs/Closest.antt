@@ -8,8 +8,8 @@ use Rattle.std.specs.declared.option.Option.the-variants.{Some, None}
 use Rattle.clock.specs.Farey.{F63}
 use Rattle.clock.specs.declared.fraction.Fraction.{Fraction}
 use Rattle.clock.specs.declared.divider.ClockDivider.{ClockDivider}
-use Rattle.clock.specs.declared.search.ClosestDivider.{ClosestDivider}
-use Rattle.clock.specs.declared.search.Term.{Term}
+use Rattle.clock.specs.declared.closest.ClosestDivider.{ClosestDivider}
+use Rattle.clock.specs.declared.closest.Term.{Term}
 
 -- a fraction is not below x/y, by whole products
 abbrev pub not-below : Fraction → ℕ → ℕ → Bool

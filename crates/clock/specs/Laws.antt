@@ -1,17 +1,18 @@
 -- What users count on, in the words of clocks and fractions, of all that the rules give.
 use mathlib.Core.Path.{_≡_}
-use mathlib.Core.Logic.{_↔_}
+use mathlib.Core.Logic.{_↔_, _⊎_}
 use mathlib.Core.List.{List}
 use Prim.Native.Nat.{ℕ, _+_, _*_, _/_, _≤_, _<_, _∣_}
 use lib.ListN.{length, getD}
 use Rattle.std.specs.declared.option.Option.{Option}
 use Rattle.std.specs.declared.option.Option.the-variants.{Some, None}
+use Rattle.clock.specs.Farey.{F63}
 use Rattle.clock.specs.Divider.{hertz, Not-above, Allowed}
 use Rattle.clock.specs.Search.{Answer}
 use Rattle.clock.specs.Search.Answer.{setting, refused}
 use Rattle.clock.specs.declared.fraction.Fraction.{Fraction}
 use Rattle.clock.specs.declared.divider.ClockDivider.{ClockDivider}
-use Rattle.clock.specs.declared.search.ClosestDivider.{ClosestDivider}
+use Rattle.clock.specs.declared.closest.ClosestDivider.{ClosestDivider}
 
 -- a fraction from 0/1 to 1/1 in lowest terms with a denominator up to 63
 pub record Small-fraction (t : Fraction) : Type 0 where
@@ -43,10 +44,20 @@ pub record From-below (s r : ℕ) (d : ClockDivider) : Type 0 where
   pub never-above-asked : Not-above s d r
   pub none-comes-closer : (e : ClockDivider) → Allowed e → Not-above s e r → hertz s e ≤ hertz s d
 
--- one source serves exactly where the quotient is at most 256
-abbrev pub Closest-from-below : ℕ → ℕ → Option ClosestDivider → Type 0
-Closest-from-below s r None = 256 < s / r
-Closest-from-below s r (Some c) = (s / r ≤ 256) × From-below s r (c .divider) × Fits-fields (c .divider)
+-- a count is the place in F63, from 1, of the divider's fraction, and 0 where there is no fraction
+abbrev pub Counts-its-place : ClosestDivider → Type 0
+Counts-its-place c =
+    ((c .count ≡ 0) × (c .divider .«div_b» ≡ 0))
+    ⊎ ((k : ℕ) × (k < length F63) × (c .count ≡ k + 1)
+    × (place F63 k ≡ record { numerator = c .divider .«div_b»; denominator = c .divider .«div_a» }))
+
+-- what holds of every answer for one source: it does not serve exactly where the quotient is above 256, and where it
+-- serves, its divider is the best from below
+pub record Closest-from-below (s r : ℕ) (o : Option ClosestDivider) : Type 0 where
+  pub too-fast : (o ≡ None) ↔ (256 < s / r)
+  pub from-below : (c : ClosestDivider) → o ≡ Some c → From-below s r (c .divider)
+  pub fits-the-fields : (c : ClosestDivider) → o ≡ Some c → Fits-fields (c .divider)
+  pub counts-its-place : (c : ClosestDivider) → o ≡ Some c → Counts-its-place c
 
 -- the setting of a list of sources: its output is not above r, no allowed setting of any source that is not above
 -- has more whole hertz, and one of an earlier source has fewer

@@ -13,7 +13,7 @@ use Rattle.clock.specs.Closest.{closest}
 use Rattle.clock.specs.Divider.{hertz}
 use Rattle.clock.specs.declared.divider.ClockDivider.{ClockDivider}
 use Rattle.clock.specs.declared.search.Best.{Best}
-use Rattle.clock.specs.declared.search.ClosestDivider.{ClosestDivider}
+use Rattle.clock.specs.declared.closest.ClosestDivider.{ClosestDivider}
 use Rattle.clock.specs.declared.search.ClockError.{ClockError}
 use Rattle.clock.specs.declared.search.ClockError.the-variants.{FrequencyZero, FrequencyTooLow}
 

@@ -3,7 +3,6 @@ ghost use mathlib.Core.Path.{_≡_};
 ghost use mathlib.Core.Bool.{true};
 ghost use lib.ListN.{length};
 ghost use Rattle.clock.specs.Cases.{worked-cases, all-hold};
-use crate::laws::cases_hold;
 
 /// How many worked cases there are. Each of them holds: the rules give its setting or refusal, and its whole hertz.
 pub fn worked_cases() -> u32
@@ -13,3 +12,8 @@ pub fn worked_cases() -> u32
     cases_hold();
     11
 }
+
+// Each case, computed.
+fn cases_hold()
+    ensures { λ _. ⌜ all-hold worked-cases ≡ true ⌝ }
+{}

@@ -1,13 +1,13 @@
 // The search for callers in C and Rust: numbers in, one packed number out.
 ghost use mathlib.Core.Path.{_≡_};
 ghost use mathlib.Core.List.{[], _∷_};
-ghost use Prim.Native.Nat.{_<_};
+ghost use Prim.Native.Nat.{ℕ, _<_};
 ghost use Rattle.clock.specs.Laws.{Search-law, Fits-fields};
 ghost use Rattle.clock.specs.Packed.{packed, unpacked};
 ghost use Rattle.clock.specs.Search.{searched};
 ghost use Rattle.clock.specs.Search.Answer.{setting};
+ghost use Rattle.clock.specs.declared.divider.ClockDivider.{ClockDivider as Divider};
 use crate::divider::ClockDivider;
-use crate::laws::packed_reads_back;
 use crate::search::calculate_clkm;
 
 /// The source and the divider for a frequency, over the three sources of LCD_CAM in the order of clk_sel.
@@ -18,7 +18,7 @@ use crate::search::calculate_clkm;
 pub extern "C" fn lcd_cam_calculate_clkm(frequency: u32, xtal: u32, pll_d2: u32, crypto: u32) -> u32
     ensures packed { λ r. ⌜ r ≡ packed (searched frequency (xtal ∷ («pll_d2» ∷ (crypto ∷ [])))) ⌝ }
     ensures unpacked { λ r. ⌜ unpacked r ≡ searched frequency (xtal ∷ («pll_d2» ∷ (crypto ∷ []))) ⌝ }
-    ensures law { λ _. ⌜ Search-law frequency (xtal ∷ («pll_d2» ∷ (crypto ∷ []))) (searched frequency (xtal ∷ («pll_d2» ∷ (crypto ∷ [])))) ⌝ }
+    ensures law { λ r. ⌜ Search-law frequency (xtal ∷ («pll_d2» ∷ (crypto ∷ []))) (unpacked r) ⌝ }
 {
     packed_reads_back(frequency, xtal, pll_d2, crypto);
     match calculate_clkm(frequency, &[xtal, pll_d2, crypto]) {
@@ -38,3 +38,9 @@ fn pack(index: usize, divider: &ClockDivider) -> u32
         + ((divider.div_a as u32) << 14)
         + (source << 20)
 }
+
+// A packed answer over three sources reads back, since a setting fits its bits.
+fn packed_reads_back(frequency: u32, xtal: u32, pll_d2: u32, crypto: u32)
+    ensures reads { λ _. ⌜ unpacked (packed (searched frequency (xtal ∷ («pll_d2» ∷ (crypto ∷ []))))) ≡ searched frequency (xtal ∷ («pll_d2» ∷ (crypto ∷ []))) ⌝ }
+    ensures fits { λ _. ⌜ ((i : ℕ) (d : Divider) → setting i d ≡ searched frequency (xtal ∷ («pll_d2» ∷ (crypto ∷ []))) → (i < 3) × Fits-fields d) ⌝ }
+{}

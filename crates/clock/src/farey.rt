@@ -5,11 +5,10 @@ ghost use mathlib.Core.Bool.{true, cond};
 ghost use Prim.Native.Nat.{_+_, _-_, _≤_};
 ghost use Rattle.std.specs.Options.{Cases as BySome, isSome};
 ghost use Rattle.std.specs.Orderings.{When};
-ghost use Rattle.clock.specs.Farey.{F63, sound, ahead, Goes-on};
+ghost use Rattle.clock.specs.Farey.{F63, first-terms, sound, ahead, Goes-on};
 ghost use Rattle.clock.specs.Laws.{All-small-fractions};
 use crate::fraction::Fraction;
 use crate::fraction::Neighbours;
-use crate::laws::walk_gives_f63;
 
 /// A walk through the Farey sequence of order 63.
 #[derive(Clone, Copy)]
@@ -39,6 +38,13 @@ pub fn farey_sequence() -> FareySequence
         place: 0,
     }
 }
+
+// The walk from 0/1 on gives F63.
+fn walk_gives_f63()
+    ensures start { λ _. ⌜ ahead 0 first-terms ≡ F63 ⌝ }
+    ensures goes { λ _. ⌜ sound 1229 first-terms ≡ true ⌝ }
+    ensures all { λ _. ⌜ All-small-fractions F63 ⌝ }
+{}
 
 impl FareySequence {
     /// The next term, or `None` after 1/1.

@@ -1,8 +1,7 @@
 // Fractions, and the highest common factor that brings them to lowest terms.
 ghost use mathlib.Core.Path.{_≡_};
-ghost use Prim.Native.Nat.{_+_, _<_};
+ghost use Prim.Native.Nat.{ℕ, _+_, _%_};
 ghost use Rattle.clock.specs.Divisors.{Greatest-common-divisor};
-use crate::laws::euclid;
 
 /// A fraction of two whole numbers.
 #[derive(Clone, Copy, PartialEq, Eq, Debug)]
@@ -28,3 +27,9 @@ pub fn hcf(a: u32, b: u32) -> u32
     euclid(a, b);
     if b != 0 { hcf(b, a % b) } else { a }
 }
+
+// Euclid's step: the divisors that a and b share are those that b and a mod b share.
+fn euclid(a: u32, b: u32)
+    ensures step { λ _. ⌜ ((g : ℕ) → Greatest-common-divisor b (a % b) g → Greatest-common-divisor a b g) ⌝ }
+    ensures end { λ _. ⌜ Greatest-common-divisor a 0 a ⌝ }
+{}

@@ -1,20 +1,14 @@
-// The search for the setting that comes closest to a frequency from below.
+// The search through the sources for the setting that comes closest to a frequency from below.
 ghost use mathlib.Core.Path.{_≡_};
-ghost use mathlib.Core.Bool.{true};
-ghost use Prim.Native.Nat.{_+_, _<_, _≤_};
-ghost use Rattle.std.specs.Options.{Cases as BySome, isSome};
-ghost use Rattle.clock.specs.Closest.{closest, least-term};
-ghost use Rattle.clock.specs.Laws.{Closest-from-below, Search-law};
-ghost use Rattle.clock.specs.Search.{searched, considered, answer-of, number, count-of};
+ghost use Prim.Native.Nat.{ℕ, _≤_};
+ghost use lib.ListN.{length, drop};
+ghost use Rattle.clock.specs.Laws.{Search-law};
+ghost use Rattle.clock.specs.Search.{searched, best-from, considered, answer-of, number, count-of};
+ghost use Rattle.clock.specs.declared.search.Best.{Best as BestSoFar};
+use crate::closest::ClosestDivider;
+use crate::closest::calculate_closest_divider;
 use crate::divider::ClockDivider;
-use crate::divider::ClockDividerDebug;
-use crate::divider::ClockDividerPartialEq;
 use crate::divider::calculate_output_frequency;
-use crate::farey::farey_sequence;
-use crate::fraction::Fraction;
-use crate::fraction::hcf;
-use crate::laws::best_from_below;
-use crate::laws::closest_from_below;
 
 /// Why no setting is found.
 #[derive(Clone, Copy, PartialEq, Eq, Debug)]
@@ -37,28 +31,13 @@ impl ClockError {
     }
 }
 
-/// A divider of one source, and the place of its fraction in the Farey sequence.
-#[derive(Clone, Copy, PartialEq, Eq, Debug)]
-pub struct ClosestDivider {
-    pub divider: ClockDivider,
-    /// The place from 1; 0 where there is no remainder, or the source is not fast enough to be divided.
-    pub count: u32,
-}
-
-/// A term of the Farey sequence, and its place from 1.
-#[derive(Clone, Copy)]
-pub struct Term {
-    pub fraction: Fraction,
-    pub place: u32,
-}
-
 /// The source and the divider whose output comes closest to a frequency from below.
 pub fn calculate_clkm(
     desired_frequency: u32,
     source_frequencies: &[u32],
 ) -> Result<(usize, ClockDivider), ClockError>
     ensures answer { λ r. ⌜ answer-of r ≡ searched «desired_frequency» (now («source_frequencies» .entry)) ⌝ }
-    ensures law { λ _. ⌜ Search-law «desired_frequency» (now («source_frequencies» .entry)) (searched «desired_frequency» (now («source_frequencies» .entry))) ⌝ }
+    ensures law { λ r. ⌜ Search-law «desired_frequency» (now («source_frequencies» .entry)) (answer-of r) ⌝ }
 {
     best_from_below(desired_frequency, source_frequencies);
     if desired_frequency == 0 {
@@ -119,89 +98,8 @@ impl Best {
     }
 }
 
-/// The divider of one source whose output comes closest to a frequency from below; `None` where the source is too
-/// fast for it.
-pub fn calculate_closest_divider(
-    source_frequency: u32,
-    desired_frequency: u32,
-) -> Option<ClosestDivider>
-    ensures answer { λ r. ⌜ r ≡ closest «source_frequency» «desired_frequency» ⌝ }
-    ensures law { λ _. ⌜ (0 < «desired_frequency» → Closest-from-below «source_frequency» «desired_frequency» (closest «source_frequency» «desired_frequency»)) ⌝ }
-{
-    closest_from_below(source_frequency, desired_frequency);
-    if desired_frequency == 0 {
-        return None;
-    }
-    let quotient = source_frequency / desired_frequency;
-    if quotient < 2 {
-        // The source is not fast enough to be divided down to the frequency: its greatest output.
-        return Some(ClosestDivider {
-            divider: ClockDivider {
-                div_num: 1,
-                div_b: 0,
-                div_a: 0,
-            },
-            count: 0,
-        });
-    }
-    if quotient > 256 {
-        return None;
-    }
-    let div_num = if quotient == 256 { 0 } else { quotient as u8 };
-    let target = lowest_terms(source_frequency % desired_frequency, desired_frequency);
-    if target.numerator == 0 {
-        return Some(ClosestDivider {
-            divider: ClockDivider {
-                div_num,
-                div_b: 0,
-                div_a: 0,
-            },
-            count: 0,
-        });
-    }
-    let term = find_not_below(&target).unwrap();
-    let div_b = term.fraction.numerator as u8;
-    let div_a = term.fraction.denominator as u8;
-    Some(ClosestDivider {
-        divider: ClockDivider {
-            div_num,
-            div_b,
-            div_a,
-        },
-        count: term.place,
-    })
-}
-
-// A fraction in lowest terms: the same terms of the Farey sequence are not below it.
-fn lowest_terms(numerator: u32, denominator: u32) -> Fraction
-    requires { ⌜ 0 < denominator ⌝ }
-    ensures same { λ r. ⌜ least-term (r .numerator) (r .denominator) ≡ least-term numerator denominator ⌝ }
-    ensures some { λ r. ⌜ (r .numerator ≡ 0 → numerator ≡ 0) ⌝ ∗ ⌜ (numerator ≡ 0 → r .numerator ≡ 0) ⌝ }
-    ensures proper { λ r. ⌜ (numerator ≤ denominator → r .numerator ≤ r .denominator) ⌝ }
-{
-    let gcd = hcf(numerator, denominator);
-    Fraction {
-        numerator: numerator / gcd,
-        denominator: denominator / gcd,
-    }
-}
-
-// The first term of the Farey sequence that is not below a fraction.
-fn find_not_below(target: &Fraction) -> Option<Term>
-    ensures term { λ r. ⌜ r ≡ least-term (now (target .entry) .numerator) (now (target .entry) .denominator) ⌝ }
-    ensures some { λ r. ⌜ (now (target .entry) .numerator ≤ now (target .entry) .denominator → isSome r ≡ true) ⌝ }
-    ensures small { λ r. ⌜ BySome r (Unit {0}) (λ t. (t .fraction .numerator ≤ 63) × (t .fraction .denominator ≤ 63)) ⌝ }
-{
-    let mut sequence = farey_sequence();
-    while let Some(curr) = sequence.next() {
-        let new_curr_num = curr.numerator as u64 * target.denominator as u64;
-        let new_target_num = target.numerator as u64 * curr.denominator as u64;
-        if new_curr_num >= new_target_num {
-            return Some(Term {
-                fraction: curr,
-                place: sequence.place,
-            });
-        }
-    }
-    None
-}
+// What the rules give for a list of sources is the best from below, and past the last source nothing changes.
+fn best_from_below(frequency: u32, sources: &[u32])
+    ensures law { λ _. ⌜ Search-law frequency (now (sources .entry)) (searched frequency (now (sources .entry))) ⌝ }
+    ensures end { λ _. ⌜ ((i : ℕ) (best : BestSoFar) → length (now (sources .entry)) ≤ i → best-from frequency i (drop i (now (sources .entry))) best ≡ best) ⌝ }
+{}

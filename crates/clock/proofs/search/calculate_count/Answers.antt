@@ -1,4 +1,4 @@
-use mathlib.Core.Path.{sym}
+use mathlib.Core.Path.{refl}
 use Prim.Native.Nat.{_<_}
 use borrow.Author.Needs.{needs}
 use lib.ListN.{length}
@@ -9,10 +9,10 @@ pub offset-source-frequencies-i : need.offset-source-frequencies-i
 offset-source-frequencies-i c =
     let found = c .in-Ok .ensures tt in
     let known : c .in-Ok .i < length (c .args .source-frequencies .now) =
-    found .law .best _ _ (sym (found .answer)) .known-source in
+    found .law .best _ _ refl .known-source in
     search needs
 
 pub index-source-frequencies-i : need.index-source-frequencies-i
 index-source-frequencies-i c =
     let found = c .in-Ok .ensures tt in
-    found .law .best _ _ (sym (found .answer)) .known-source
+    found .law .best _ _ refl .known-source

@@ -1,5 +1,5 @@
-use Rattle.clock.proofs.Scaled.{factor-positive, same-terms, zero-from, zero-to, stays-proper}
-use Rattle.clock.proofs.search.lowest_terms.Needs as need
+use Rattle.clock.proofs.Scaled.{factor-positive, same-terms, zero-from, zero-to}
+use Rattle.clock.proofs.closest.lowest_terms.Needs as need
 
 pub div-result : need.div-result
 div-result c = factor-positive (c .args .numerator) (c .args .denominator) _ (c .pre) (c .hcf-gcd .ensures .greatest)
@@ -16,5 +16,4 @@ returns c =
     record {
       same = same-terms n d g (c .pre) h;
       some = (zero-from n d g (c .pre) h, zero-to n d g (c .pre) h);
-      proper = stays-proper n d g (c .pre) h;
     }

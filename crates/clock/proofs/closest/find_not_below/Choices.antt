@@ -2,7 +2,7 @@ use mathlib.Core.Path.{_≡_}
 use Prim.Native.Nat.{_+_, _-_}
 use Rattle.clock.specs.Closest.{first-not-below, least-term}
 use Rattle.clock.specs.Farey.{ahead}
-use Rattle.clock.proofs.search.find_not_below.Given as given
+use Rattle.clock.proofs.closest.find_not_below.Given as given
 
 abbrev pub Inv-loop-curr : given.InvT-loop-curr
 Inv-loop-curr l =

@@ -1,5 +1,5 @@
 use Rattle.clock.proofs.Sources.{search-law, no-turn}
-use Rattle.clock.proofs.laws.best_from_below.Needs as need
+use Rattle.clock.proofs.search.best_from_below.Needs as need
 
 pub returns : need.returns
 returns c =

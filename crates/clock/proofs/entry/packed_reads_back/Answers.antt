@@ -1,5 +1,5 @@
 use Rattle.clock.proofs.Bits.{three-fit, three-read-back}
-use Rattle.clock.proofs.laws.packed_reads_back.Needs as need
+use Rattle.clock.proofs.entry.packed_reads_back.Needs as need
 
 pub returns : need.returns
 returns c =

@@ -1,7 +1,7 @@
 use mathlib.Core.Path.{refl}
 use Rattle.clock.specs.Farey.{F63, ahead, sound}
 use Rattle.clock.proofs.Fractions.{F63-complete}
-use Rattle.clock.proofs.laws.walk_gives_f63.Needs as need
+use Rattle.clock.proofs.farey.walk_gives_f63.Needs as need
 
 pub returns : need.returns
 unfolding F63 ahead sound

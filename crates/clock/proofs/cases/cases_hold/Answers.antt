@@ -1,7 +1,7 @@
 use mathlib.Core.Path.{refl}
 use Rattle.clock.specs.Farey.{F63}
 use Rattle.clock.specs.Search.{best-from}
-use Rattle.clock.proofs.laws.cases_hold.Needs as need
+use Rattle.clock.proofs.cases.cases_hold.Needs as need
 
 pub returns : need.returns
 unfolding F63 best-from
