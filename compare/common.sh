@@ -27,12 +27,22 @@ extract() {
     sed -e 's/let a = divider\.div_b as u64;/let a = divider.div_a as u64;/' \
         -e 's/let b = divider\.div_a as u64;/let b = divider.div_b as u64;/' \
         "$out/published.rs" >"$out/corrected.rs"
+
+    # The chip's usize has 32 bits. The index of a source and the length of a list
+    # stay what they are.
+    sed -e 's/\busize\b/u32/g' -e 's/Result<(u32, ClockDivider)/Result<(usize, ClockDivider)/' \
+        "$out/corrected.rs" >"$out/narrow.rs"
 }
 
-# Proves and writes our static library where it is missing.
+# Proves and writes our static library where it is missing or older than its source.
 need_clock_lib() {
-    [ -f "$clock_lib" ] && return
-    [ -z "${CLOCK_LIB:-}" ] || fail "CLOCK_LIB names no file: $CLOCK_LIB"
+    if [ -n "${CLOCK_LIB:-}" ]; then
+        [ -f "$clock_lib" ] || fail "CLOCK_LIB names no file: $CLOCK_LIB"
+        return
+    fi
+    if [ -f "$clock_lib" ] && [ -z "$(find "$root/crates/clock/src" -newer "$clock_lib")" ]; then
+        return
+    fi
     (cd "$root" && rt staticlib clock) || fail "rt staticlib clock failed"
 }
 

@@ -9,6 +9,7 @@ use compare::boundary::{
 use compare::distributions::DISTRIBUTIONS;
 use compare::inputs::{Input, USUAL, boundaries, panels};
 use compare::random::Random;
+use compare::search::{corrected, narrow};
 use compare::tally::Tally;
 
 const COUNT: u64 = 10_000_000;
@@ -39,6 +40,7 @@ fn number(word: Option<String>, default: u64) -> u64 {
 /// The number of inputs compared, or the first on which the searches differ.
 fn compare(count: u64, seed: u64) -> Result<u64, Input> {
     print_13_mhz();
+    print_32_bits();
 
     let mut inputs = 0;
     for input in boundaries() {
@@ -86,6 +88,20 @@ fn print_13_mhz() {
     );
     println!("  put right: {}", describe(expected(input)));
     println!("  ours:      {}", describe(ours(input)));
+}
+
+/// A frequency at which a product of the search does not fit a `usize` of 32 bits.
+fn print_32_bits() {
+    let input = Input::new(80_000_021, USUAL);
+    println!("a usize of 32 bits: {input}");
+    for (bits, setting) in [
+        (32, narrow::search(input.frequency, &input.sources)),
+        (64, corrected::search(input.frequency as usize, &input.slice())),
+    ] {
+        let Some(setting) = setting else { continue };
+        let hertz = corrected::hertz(&input.slice(), setting);
+        println!("  put right, {bits} bits: {setting}, {hertz} Hz");
+    }
 }
 
 fn check(input: Input) -> Result<(), Input> {

@@ -1,5 +1,6 @@
-//! esp-hal's search twice: as published, and with the two exchanged lines of
-//! `calculate_output_frequency` put right.
+//! esp-hal's search three times: as published, with the two exchanged lines of
+//! `calculate_output_frequency` put right, and so once more with a `usize` of 32
+//! bits, as the chip has it.
 
 use std::fmt;
 
@@ -35,14 +36,14 @@ macro_rules! unwrap {
 }
 
 macro_rules! search {
-    ($name:ident, $file:literal) => {
+    ($name:ident, $file:literal, $number:ty) => {
         pub mod $name {
             use super::Setting;
 
             include!(concat!(env!("COMPARE_OUT"), "/", $file));
 
             /// The search's setting, or `None` where it refuses.
-            pub fn search(frequency: usize, sources: &[usize]) -> Option<Setting> {
+            pub fn search(frequency: $number, sources: &[$number]) -> Option<Setting> {
                 match calculate_clkm(frequency, sources) {
                     Ok((
                         source,
@@ -53,16 +54,16 @@ macro_rules! search {
                         },
                     )) => Some(Setting {
                         source,
-                        div_num,
-                        div_b,
-                        div_a,
+                        div_num: div_num as usize,
+                        div_b: div_b as usize,
+                        div_a: div_a as usize,
                     }),
                     Err(ClockError::FrequencyTooLow) => None,
                 }
             }
 
             /// The whole hertz that the search reckons with for a setting.
-            pub fn hertz(sources: &[usize], setting: Setting) -> usize {
+            pub fn hertz(sources: &[$number], setting: Setting) -> $number {
                 let Setting {
                     source,
                     div_num,
@@ -72,23 +73,24 @@ macro_rules! search {
                 calculate_output_frequency(
                     sources[source],
                     &ClockDivider {
-                        div_num,
-                        div_b,
-                        div_a,
+                        div_num: div_num as $number,
+                        div_b: div_b as $number,
+                        div_a: div_a as $number,
                     },
                 )
             }
 
             /// The terms that the search walks, numerator first.
-            pub fn terms() -> impl Iterator<Item = (usize, usize)> {
+            pub fn terms() -> impl Iterator<Item = ($number, $number)> {
                 farey_sequence(63).map(|term| (term.numerator, term.denominator))
             }
         }
     };
 }
 
-search!(published, "published.rs");
-search!(corrected, "corrected.rs");
+search!(published, "published.rs", usize);
+search!(corrected, "corrected.rs", usize);
+search!(narrow, "narrow.rs", u32);
 
 /// The place of the setting's fraction among the terms, from 1; 0 where the
 /// setting has none.

@@ -1,0 +1,10 @@
+pub mod Words
+pub mod Reasons
+pub mod Numbers
+pub mod Keywords
+pub mod Statements
+pub mod Meanings
+pub mod Endings
+pub mod Evaluated
+pub mod Printed
+pub mod Replies
