@@ -1,6 +1,5 @@
 -- Euclid's step keeps the greatest common divisor.
-use mathlib.Core.Path.{_≡_}
-use Prim.Native.Nat.{ℕ, _∣_, _%_}
+use Prim.Native.Nat.{ℕ, _%_}
 use native.Mathlib.Nat.{dvd-refl, dvd-zero, dvd-mod-iff}
 use Rattle.clock.specs.Divisors.{Greatest-common-divisor}
 

@@ -2,23 +2,11 @@
 use mathlib.Core.Path.{_≡_, refl, sym, ap, subst, _∙_}
 use mathlib.Core.Bool.{true}
 use mathlib.Core.List.{List, [], _∷_}
-use mathlib.Core.Logic.{⊎-elim}
 use Prim.Native.Nat.{ℕ, zero, suc, _+_, _*_, _/_, _≤_, _<_, _∣_}
-use native.Mathlib.Nat.{
-  dvd-refl,
-  dvd-zero,
-  dvd-mul-left,
-  dvd-mul-right,
-  dvd-mul-left-of-dvd,
-  dvd-mul-right-of-dvd,
-  dvd-add-iff-right,
-  eq-one-of-dvd-one,
-  mul-div-cancel',
-  mul-le-mul-left,
-}
+use native.Mathlib.Nat.{dvd-refl, dvd-zero, dvd-mul-left, dvd-mul-left-of-dvd, dvd-mul-right-of-dvd, dvd-add-iff-right, eq-one-of-dvd-one, mul-div-cancel'}
 use native.Mathlib.Numerals.{add-one}
 use native.Mathlib.Omega.{arith}
-use lib.ListN.{length, getD}
+use lib.ListN.{length}
 use Rattle.std.specs.Options.{isSome}
 use Rattle.std.specs.declared.option.Option.{Option}
 use Rattle.std.specs.declared.option.Option.the-variants.{Some, None}
@@ -28,9 +16,9 @@ use Rattle.clock.specs.Closest.{least-term}
 use Rattle.clock.specs.Laws.{place, Small-fraction, All-small-fractions}
 use Rattle.clock.specs.declared.fraction.Fraction.{Fraction}
 use Rattle.clock.specs.declared.closest.Term.{Term}
-use Rattle.clock.proofs.Linked.{Linked, Ranges, Next, F63-linked}
+use Rattle.clock.proofs.Linked.{Linked, Ranges, F63-linked}
 use Rattle.clock.proofs.Outputs.{cancel}
-use Rattle.clock.proofs.Terms.{Found, least-term-found, least-term-least, least-term-some}
+use Rattle.clock.proofs.Terms.{least-term-found, least-term-least, least-term-some}
 
 -- w d - n z = 1 for some w and z, so n/d is in lowest terms
 pub record Reduced (t : Fraction) : Type 0 where

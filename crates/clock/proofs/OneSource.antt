@@ -1,6 +1,6 @@
 -- The divider that the rules give for one source comes closest from below.
-use mathlib.Core.Path.{_≡_, refl, sym, ap, subst, subst₃, _∙_}
-use mathlib.Core.Bool.{Bool, true, false, cond, _||_}
+use mathlib.Core.Path.{_≡_, refl, sym, ap, subst, subst₃}
+use mathlib.Core.Bool.{true, cond, _||_}
 use mathlib.Core.Logic.{inl, inr, ⊎-elim}
 use Prim.Native.Nat.{ℕ, zero, suc, _+_, _*_, _/_, _%_, _≤_, _<_}
 use native.Mathlib.Nat.{mul-le-mul-left, mul-le-mul-right, div-add-mod', div-mul-le-self, mod-lt, mul-lt-mul-of-pos-right, mul-pos}
@@ -9,7 +9,7 @@ use lib.Dec.{eqb, ltb}
 use Rattle.std.specs.Options.{isSome}
 use Rattle.std.specs.declared.option.Option.{Option}
 use Rattle.std.specs.declared.option.Option.the-variants.{Some, None}
-use Rattle.std.proofs.shelf.Tests.{false≢true, cases-order, cases-lt, cond-both, ne-eqb, eqb-true, eqb-false, ltb-true, ltb-false}
+use Rattle.std.proofs.shelf.Tests.{false≢true, cases-order, cases-lt, cond-both, eqb-true, eqb-false, ltb-true, ltb-false}
 use Rattle.std.proofs.shelf.Ways.{tells}
 use Rattle.clock.specs.Divider.{hertz, Not-above, Allowed, whole-part, numerator, denominator, divisor}
 use Rattle.clock.specs.Closest.{closest, divided, undivided, with-term, least-term, stored}
@@ -18,7 +18,7 @@ use Rattle.clock.specs.declared.divider.ClockDivider.{ClockDivider}
 use Rattle.clock.specs.declared.closest.ClosestDivider.{ClosestDivider}
 use Rattle.clock.specs.declared.closest.Term.{Term}
 use Rattle.clock.proofs.Outputs.{cancel, hertz-falls}
-use Rattle.clock.proofs.Terms.{Found, Least, least-term-found, least-term-least, least-term-some}
+use Rattle.clock.proofs.Terms.{least-term-found, least-term-least, least-term-some}
 
 -- what holds of one source, by cases
 abbrev pub Closest-cases : ℕ → ℕ → Option ClosestDivider → Type 0

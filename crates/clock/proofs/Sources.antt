@@ -1,32 +1,21 @@
 -- Going through the sources keeps the best so far, so that the best of all is left at the end.
 use mathlib.Core.Path.{_≡_, refl, sym, ap, subst, subst₂, _∙_}
-use mathlib.Core.Bool.{Bool, true, false, cond, not, _||_}
 use mathlib.Core.List.{List, [], _∷_}
-use mathlib.Core.Logic.{_⊎_, inl, inr, ⊎-elim, _↔_}
-use Prim.Native.Nat.{ℕ, zero, suc, _+_, _*_, _/_, _≤_, _<_}
-use native.Mathlib.Nat.{
-  add-zero,
-  zero-add,
-  le-refl,
-  le-of-lt,
-  lt-mul-div-succ,
-  div-mul-le-self,
-  mul-le-mul-left,
-  mul-le-mul-right,
-}
+use mathlib.Core.Logic.{⊎-elim}
+use Prim.Native.Nat.{ℕ, suc, _+_, _*_, _≤_, _<_}
+use native.Mathlib.Nat.{add-zero, zero-add, le-refl, le-of-lt, lt-mul-div-succ, div-mul-le-self, mul-le-mul-left, mul-le-mul-right}
 use native.Mathlib.Omega.{arith}
 use lib.Dec.{eqb, ltb}
 use lib.ListN.{length, getD, drop}
-use Rattle.std.specs.Options.{isSome}
 use Rattle.std.specs.declared.option.Option.{Option}
 use Rattle.std.specs.declared.option.Option.the-variants.{Some, None}
 use Rattle.std.proofs.shelf.Lists.{drop-more, drop-all}
-use Rattle.std.proofs.shelf.Tests.{cases-lt, cases-eq, cond-both, ltb-true, ltb-false, eqb-true, eqb-false}
+use Rattle.std.proofs.shelf.Tests.{cases-lt, cond-both, ltb-true, ltb-false, eqb-true, eqb-false}
 use Rattle.clock.specs.Divider.{hertz, Not-above, Allowed}
 use Rattle.clock.specs.Closest.{closest}
-use Rattle.clock.specs.Search.{nothing, considered, best-from, answered, searched, Answer}
-use Rattle.clock.specs.Search.Answer.{setting, refused}
-use Rattle.clock.specs.Laws.{From-below, Best-from-below, All-too-fast, Search-law}
+use Rattle.clock.specs.Search.{nothing, considered, best-from, answered, searched}
+use Rattle.clock.specs.Search.Answer.{refused}
+use Rattle.clock.specs.Laws.{Best-from-below, Search-law}
 use Rattle.clock.specs.declared.divider.ClockDivider.{ClockDivider}
 use Rattle.clock.specs.declared.search.Best.{Best}
 use Rattle.clock.specs.declared.closest.ClosestDivider.{ClosestDivider}

@@ -1,18 +1,16 @@
 -- The first term of F63 that is not below a fraction is the least of all small fractions that are not below it.
-use mathlib.Core.Path.{_≡_, refl, sym, ap, subst, _∙_}
+use mathlib.Core.Path.{_≡_, refl, sym}
 use mathlib.Core.Bool.{Bool, true, false, cond}
 use mathlib.Core.List.{List, [], _∷_}
 use mathlib.Core.Logic.{⊎-elim}
 use Prim.Native.Nat.{ℕ, zero, suc, _+_, _*_, _≤_, _<_}
 use native.Mathlib.Nat.{add-zero, mul-le-mul-left}
 use native.Mathlib.Omega.{arith}
-use lib.Dec.{leb}
-use lib.ListN.{length, getD}
+use lib.ListN.{length}
 use Rattle.std.specs.Options.{isSome}
-use Rattle.std.specs.declared.option.Option.{Option}
 use Rattle.std.specs.declared.option.Option.the-variants.{Some, None}
 use Rattle.std.proofs.shelf.Tests.{leb-true, leb-false, cases-lt, le-leb, lt-leb, cond-both}
-use Rattle.clock.specs.Farey.{F63, terms-from, first-terms}
+use Rattle.clock.specs.Farey.{F63}
 use Rattle.clock.specs.Closest.{first-not-below, not-below, least-term}
 use Rattle.clock.specs.Laws.{place}
 use Rattle.clock.specs.declared.fraction.Fraction.{Fraction}

@@ -1,14 +1,14 @@
 -- A walk that is not at its end takes a step that is defined.
-use mathlib.Core.Path.{_≡_, refl, sym, subst, ap, _∙_}
-use mathlib.Core.Bool.{Bool, true, false, _&&_}
-use mathlib.Core.List.{List, [], _∷_}
-use mathlib.Core.Logic.{_⊎_, inl, inr}
+use mathlib.Core.Path.{_≡_, refl, sym, ap, _∙_}
+use mathlib.Core.Bool.{true}
+use mathlib.Core.List.{[], _∷_}
 use Prim.Native.Nat.{ℕ, zero, suc, _+_, _-_, _≤_, _<_}
 use native.Mathlib.Omega.{arith}
 use lib.Dec.{ltb}
 use Rattle.std.specs.Orderings.{When}
-use Rattle.std.proofs.shelf.Tests.{and-parts, leb-true, ltb-true, le-ltb}
-use Rattle.clock.specs.Farey.{ahead, sound, steps, following, factor, term, terms-from, Goes-on}
+use Rattle.std.proofs.shelf.Tests.{and-parts, leb-true, le-ltb}
+use Rattle.clock.specs.Farey.{following, term, terms-from}
+use Rattle.clock.specs.Walk.{ahead, sound, steps, Goes-on}
 use Rattle.clock.specs.declared.fraction.Neighbours.{Neighbours}
 
 goes : (n place : ℕ) (p : Neighbours) → n ≡ 1229 - (place + 1) → place < 1229 → suc n ≡ 1229 - place → steps p ≡ true → sound n (following p) ≡ true → Goes-on place p

@@ -7,7 +7,6 @@ use lib.ListN.{getD}
 use Rattle.clock.specs.Divider.{hertz}
 use Rattle.clock.specs.Search.{Answer, searched}
 use Rattle.clock.specs.Search.Answer.{setting, refused}
-use Rattle.clock.specs.declared.divider.ClockDivider.{ClockDivider}
 
 -- a frequency and its sources, the answer that the rules give, and its whole hertz, 0 for a refusal
 pub record Case : Type 0 where

@@ -7,7 +7,6 @@ use Rattle.std.specs.declared.option.Option.{Option}
 use Rattle.std.specs.declared.option.Option.the-variants.{Some, None}
 use Rattle.clock.specs.Farey.{F63}
 use Rattle.clock.specs.declared.fraction.Fraction.{Fraction}
-use Rattle.clock.specs.declared.divider.ClockDivider.{ClockDivider}
 use Rattle.clock.specs.declared.closest.ClosestDivider.{ClosestDivider}
 use Rattle.clock.specs.declared.closest.Term.{Term}
 

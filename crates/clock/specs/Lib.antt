@@ -1,5 +1,6 @@
 pub mod Divisors
 pub mod Farey
+pub mod Walk
 pub mod Divider
 pub mod Closest
 pub mod Search

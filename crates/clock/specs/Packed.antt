@@ -4,7 +4,6 @@ use Prim.Native.Nat.{ℕ, _+_, _-_, _*_, _/_, _%_, _^_}
 use lib.Dec.{leb}
 use Rattle.clock.specs.Search.{Answer}
 use Rattle.clock.specs.Search.Answer.{setting, refused}
-use Rattle.clock.specs.declared.divider.ClockDivider.{ClockDivider}
 
 -- bits 0 to 7 have `div_num`, 8 to 13 `div_b`, 14 to 19 `div_a`, 20 and 21 the index plus 1;
 -- a refusal is 2^31 plus its number

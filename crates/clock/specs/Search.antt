@@ -1,5 +1,5 @@
 -- What the rules give for a list of sources: the serving source with most whole hertz, the earlier one on a tie.
-use mathlib.Core.Bool.{Bool, cond, not, _||_}
+use mathlib.Core.Bool.{cond, not, _||_}
 use mathlib.Core.List.{List, [], _∷_}
 use Prim.Native.Nat.{ℕ, _+_}
 use lib.Dec.{ltb, eqb}

@@ -1,7 +1,7 @@
 use mathlib.Core.Path.{_≡_}
 use Prim.Native.Nat.{_+_, _-_}
 use Rattle.clock.specs.Closest.{first-not-below, least-term}
-use Rattle.clock.specs.Farey.{ahead}
+use Rattle.clock.specs.Walk.{ahead}
 use Rattle.clock.proofs.closest.find_not_below.Given as given
 
 abbrev pub Inv-loop-curr : given.InvT-loop-curr

@@ -1,5 +1,6 @@
 use mathlib.Core.Path.{refl}
-use Rattle.clock.specs.Farey.{F63, ahead, sound}
+use Rattle.clock.specs.Farey.{F63}
+use Rattle.clock.specs.Walk.{ahead, sound}
 use Rattle.clock.proofs.Fractions.{F63-complete}
 use Rattle.clock.proofs.farey.walk_gives_f63.Needs as need
 
