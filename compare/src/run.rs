@@ -96,7 +96,10 @@ fn print_32_bits() {
     println!("a usize of 32 bits: {input}");
     for (bits, setting) in [
         (32, narrow::search(input.frequency, &input.sources)),
-        (64, corrected::search(input.frequency as usize, &input.slice())),
+        (
+            64,
+            corrected::search(input.frequency as usize, &input.slice()),
+        ),
     ] {
         let Some(setting) = setting else { continue };
         let hertz = corrected::hertz(&input.slice(), setting);

@@ -3,7 +3,7 @@ ghost use mathlib.Core.Path.{_≡_};
 ghost use Prim.Native.Nat.{ℕ, _≤_};
 ghost use lib.ListN.{length, drop};
 ghost use Rattle.clock.specs.Laws.{Search-law};
-ghost use Rattle.clock.specs.Search.{searched, best-from, considered, answer-of, number, count-of};
+ghost use Rattle.clock.specs.Search.{searched, best-from, considered, answer-of, number};
 ghost use Rattle.clock.specs.declared.search.Best.{Best as BestSoFar};
 use crate::closest::ClosestDivider;
 use crate::closest::calculate_closest_divider;
@@ -54,20 +54,6 @@ pub fn calculate_clkm(
     match best.result {
         Some(result) => Ok(result),
         None => Err(ClockError::FrequencyTooLow),
-    }
-}
-
-/// The place in the Farey sequence, from 1, of the fraction in the search's answer; 0 where the winning source leaves no
-/// remainder or is not fast enough to be divided, and for a refusal.
-pub fn calculate_count(desired_frequency: u32, source_frequencies: &[u32]) -> u32
-    ensures { λ r. ⌜ r ≡ count-of «desired_frequency» (now («source_frequencies» .entry)) (searched «desired_frequency» (now («source_frequencies» .entry))) ⌝ }
-{
-    let Ok((i, _)) = calculate_clkm(desired_frequency, source_frequencies) else {
-        return 0;
-    };
-    match calculate_closest_divider(source_frequencies[i], desired_frequency) {
-        Some(closest) => closest.count,
-        None => 0,
     }
 }
 
