@@ -49,7 +49,7 @@ fn compare(count: u64, seed: u64) -> Result<u64, Input> {
     }
     println!("boundaries: {inputs} inputs, no difference");
 
-    println!("random: {count} inputs, seed {seed}");
+    println!("random: {count} inputs, seed: {seed}");
     let mut random = Random::new(seed);
     let mut all = Tally::default();
     for distribution in DISTRIBUTIONS {

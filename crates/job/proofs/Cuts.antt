@@ -1,7 +1,7 @@
 -- The words of a line, a byte at a time.
-use mathlib.Core.Path.{_≡_, refl, sym, ap, subst, _∙_}
-use mathlib.Core.List.{List, [], _∷_, _++_}
-use Prim.Native.Nat.{ℕ, zero, suc, _+_, _-_, _<_, _≤_}
+use mathlib.Core.Path.{_≡_, refl, ap, _∙_}
+use mathlib.Core.List.{List, [], _∷_}
+use Prim.Native.Nat.{ℕ, _+_, _<_, _≤_}
 use native.Mathlib.Omega.{arith}
 use lib.Dec.{eqb}
 use lib.ListN.{length, getD, take, drop, length-drop}
@@ -9,7 +9,7 @@ use lib.Seq.{getD-drop}
 use Rattle.std.proofs.shelf.Tests.{ne-eqb}
 use Rattle.std.proofs.shelf.Lists.{drop-more, take-more, length-take-le}
 use native.Mathlib.Nat.{add-zero}
-use Rattle.job.specs.Words.{ended, words-after, words}
+use Rattle.job.specs.Words.{words-after, words}
 
 -- a space before a line brings no word
 pub space-first : (bs cs : List ℕ) → bs ≡ 32 ∷ cs → words bs ≡ words cs

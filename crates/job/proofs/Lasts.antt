@@ -1,12 +1,12 @@
 -- A line whose last byte is known.
 use mathlib.Core.Path.{_≡_, refl, sym, ap, _∙_}
-use mathlib.Core.Bool.{Bool, true, false, cond}
+use mathlib.Core.Bool.{Bool, cond}
 use mathlib.Core.List.{List, [], _∷_, _++_}
-use Prim.Native.Nat.{ℕ, _+_, _-_}
+use Prim.Native.Nat.{ℕ, _-_}
 use native.Mathlib.Omega.{arith}
 use lib.Dec.{eqb}
 use lib.ListN.{length, getD, take}
-use Rattle.std.proofs.shelf.Lists.{getD-at, take-at, nil-from-length, length-push}
+use Rattle.std.proofs.shelf.Lists.{getD-at, take-at, length-push}
 use Rattle.std.proofs.shelf.Tests.{eq-eqb, ne-eqb, cond-both}
 use Rattle.job.specs.Endings.{without-last}
 

@@ -6,5 +6,6 @@ pub mod Statements
 pub mod Meanings
 pub mod Endings
 pub mod Evaluated
+pub mod Quotes
 pub mod Printed
 pub mod Replies

@@ -1,5 +1,5 @@
 -- Decimal numbers: ASCII digits only, at least one, leading zeros allowed, and no more than a u32 holds.
-use mathlib.Core.Bool.{Bool, true, false, cond, _&&_}
+use mathlib.Core.Bool.{Bool, true, cond, _&&_}
 use mathlib.Core.List.{List, [], _∷_}
 use Prim.Native.Nat.{ℕ, _+_, _-_, _*_}
 use lib.Dec.{leb, ltb}

@@ -9,7 +9,8 @@ use std::fmt;
 /// The answer to a `clock` line.
 #[derive(Clone, Copy, PartialEq, Eq, Debug)]
 pub enum Answer {
-    /// The index of the source, the divider, how many fractions were looked at, and the output in whole hertz.
+    /// The index of the source, the divider, the place of its fraction in the Farey sequence (0 for none), and the
+    /// output in whole hertz.
     Set {
         index: usize,
         divider: ClockDivider,

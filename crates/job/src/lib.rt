@@ -8,5 +8,7 @@ pub mod quoted;
 pub mod reader;
 pub mod reply;
 pub mod statement;
+#[cfg(test)]
+mod tests;
 pub mod unreadable;
 pub mod words;

@@ -1,5 +1,4 @@
 // From a line's bytes to a statement.
-ghost use mathlib.Core.Path.{_≡_};
 ghost use Rattle.job.specs.Words.{words};
 ghost use Rattle.job.specs.Numbers.{numbers};
 ghost use Rattle.job.specs.Statements.{statement, clock-of};

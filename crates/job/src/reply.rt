@@ -1,7 +1,8 @@
 // What is printed for a line.
 ghost use Rattle.job.specs.Endings.{without-ending};
 ghost use Rattle.job.specs.Statements.{statement};
-ghost use Rattle.job.specs.Replies.{Replies};
+ghost use Rattle.job.specs.Replies.{Replies, reply-line};
+ghost use Rattle.std.specs.declared.option.Option.the-variants.{Some};
 use crate::answer::Answer;
 use crate::answer::AnswerDisplay;
 use crate::ending::without_ending;
@@ -20,6 +21,8 @@ pub enum Reply<'a> {
 }
 
 pub impl fmt::Display for Reply<'_> as ReplyDisplay {
+    ghost shown = { λ r. Some (reply-line r) };
+
     fn fmt<W: fmt::Write>(&self, f: &mut fmt::Formatter<W>) -> fmt::Result {
         match self {
             Reply::Answered(answer) => write!(f, "{answer}"),

@@ -1,4 +1,6 @@
 // Why a line cannot be read.
+ghost use Rattle.std.specs.declared.option.Option.the-variants.{Some};
+ghost use Rattle.job.specs.Printed.{reason-text};
 use crate::quoted::Quoted;
 use crate::quoted::QuotedDisplay;
 use std::fmt;
@@ -19,6 +21,8 @@ pub enum Unreadable<'a> {
 }
 
 pub impl fmt::Display for Unreadable<'_> as UnreadableDisplay {
+    ghost shown = { λ e. Some (reason-text e) };
+
     fn fmt<W: fmt::Write>(&self, f: &mut fmt::Formatter<W>) -> fmt::Result {
         match self {
             Unreadable::UnknownStatement(word) => {

@@ -1,5 +1,4 @@
 use mathlib.Core.Path.{sym, ap}
-use native.Mathlib.Omega.{arith}
 use Prim.Native.Nat.{ℕ}
 use lib.Dec.{eqb}
 use Rattle.std.proofs.shelf.Lists.{getD-past}

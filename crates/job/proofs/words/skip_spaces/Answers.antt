@@ -2,7 +2,7 @@ use mathlib.Core.Path.{sym, ap, _∙_}
 use native.Mathlib.Omega.{arith}
 use Prim.Native.Nat.{ℕ}
 use mathlib.Core.List.{List, _∷_}
-use lib.ListN.{length, getD}
+use lib.ListN.{getD}
 use Rattle.job.proofs.Cuts.{space-first, no-words}
 use Rattle.job.proofs.words.skip_spaces.Needs as need
 
