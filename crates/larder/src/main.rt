@@ -1,4 +1,8 @@
 // Answers a job script, a line at a time. The script is the file that the one argument names, or standard input.
+mod input;
+
+use input::Line;
+use input::next_line;
 use job::reply::Reply;
 use job::reply::ReplyDisplay;
 use job::reply::reply_to;
@@ -8,10 +12,8 @@ use std::env;
 use std::env::Args;
 use std::fs::File;
 use std::io;
-use std::io::BufRead;
 use std::io::BufReader;
 use std::io::BufWriter;
-use std::io::ErrorKind;
 use std::io::Read;
 use std::io::Write;
 
@@ -33,7 +35,7 @@ fn run(rt: &LibcRuntime, mut args: Args) -> io::Result<()> {
         (Some(path), None) => said(rt, path.as_str(), answer_file(rt, path.as_str())),
         (Some(_), Some(_)) => {
             eprintln!(rt, "usage: larder [FILE]")?;
-            Err(io::Error::from(ErrorKind::InvalidInput))
+            Err(io::Error::from(io::ErrorKind::InvalidInput))
         }
     }
 }
@@ -70,36 +72,6 @@ fn answer<R: Read + Drop>(rt: &LibcRuntime, script: R) -> io::Result<()> {
         }
     }
     out.flush()
-}
-
-// What came of an attempt to read a line.
-enum Line {
-    // The buffer holds the line.
-    Whole,
-    // There was not enough memory for the line, which was read to its end.
-    TooLong,
-    // The input is at its end.
-    End,
-}
-
-// Reads a line with its ending into the buffer, in place of what the buffer held.
-fn next_line<R: BufRead>(input: &mut R, line: &mut Vec<u8>) -> io::Result<Line> {
-    line.clear();
-    let mut whole = true;
-    for _ in 0..u64::MAX {
-        match input.read_until(b'\n', line) {
-            Ok(0) if whole => return Ok(Line::End),
-            Ok(_) => return Ok(if whole { Line::Whole } else { Line::TooLong }),
-            Err(e) => {
-                if e.kind() != ErrorKind::OutOfMemory {
-                    return Err(e);
-                }
-                line.clear();
-                whole = false;
-            }
-        }
-    }
-    Ok(Line::End)
 }
 
 fn print_reply<W: Write>(out: &mut W, heap: Global, line: &[u8]) -> io::Result<()> {
