@@ -1,6 +1,6 @@
 -- What the values that the reader returns say, in the words of the rules.
 use mathlib.Core.Path.{_≡_}
-use mathlib.Core.List.{List}
+use mathlib.Core.List.{List, [], _∷_}
 use Prim.Native.Nat.{ℕ}
 use Rattle.std.specs.Of.Vec.{vec-items}
 use Rattle.std.specs.declared.alloc.Global.{Global}
@@ -34,14 +34,24 @@ Is-number w (Err (UnknownStatement u)) = ⊥
 Is-number w (Err MissingFrequency) = ⊥
 Is-number w (Err OutOfMemory) = ⊥
 
--- r says the numbers ns, unless memory was refused
+-- r says the numbers ns, unless memory was refused, which it is not where there are none
 abbrev pub Are-numbers : Result (Vec ℕ Global) Unreadable → Result (List ℕ) Reason → Type 0
 Are-numbers (Ok v) ns = ns ≡ Ok (vec-items v)
 Are-numbers (Err (NotANumber u)) ns = ns ≡ Err (not-a-number (u .now))
 Are-numbers (Err (TooLarge u)) ns = ns ≡ Err (too-large (u .now))
 Are-numbers (Err (UnknownStatement u)) ns = ⊥
 Are-numbers (Err MissingFrequency) ns = ⊥
-Are-numbers (Err OutOfMemory) ns = Unit {0}
+Are-numbers (Err OutOfMemory) ns = ns ≡ Ok [] → ⊥
+
+-- a line with a source, or with a word in the place of a number: only such a line takes memory
+abbrev pub Takes-memory : Meaning → Type 0
+Takes-memory nothing = ⊥
+Takes-memory (clock frequency []) = ⊥
+Takes-memory (clock frequency (s ∷ ss)) = Unit {0}
+Takes-memory (unreadable (unknown-statement w)) = ⊥
+Takes-memory (unreadable missing-frequency) = ⊥
+Takes-memory (unreadable (not-a-number w)) = Unit {0}
+Takes-memory (unreadable (too-large w)) = Unit {0}
 
 -- r says that a line means m, unless memory was refused
 abbrev pub Reads : Result (Option Statement) Unreadable → Meaning → Type 0
@@ -51,4 +61,4 @@ Reads (Err (UnknownStatement u)) m = m ≡ unreadable (unknown-statement (u .now
 Reads (Err MissingFrequency) m = m ≡ unreadable missing-frequency
 Reads (Err (NotANumber u)) m = m ≡ unreadable (not-a-number (u .now))
 Reads (Err (TooLarge u)) m = m ≡ unreadable (too-large (u .now))
-Reads (Err OutOfMemory) m = Unit {0}
+Reads (Err OutOfMemory) m = Takes-memory m

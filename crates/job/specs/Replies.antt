@@ -6,6 +6,7 @@ use lib.Chars.{codes}
 use Rattle.std.specs.declared.option.Option.{Option}
 use Rattle.std.specs.declared.option.Option.the-variants.{Some, None}
 use Rattle.job.specs.Evaluated.{clock-answer}
+use Rattle.job.specs.Meanings.{Takes-memory}
 use Rattle.job.specs.Printed.{answer-line, reason-text}
 use Rattle.job.specs.Reasons.Reason.{unknown-statement, missing-frequency, not-a-number, too-large}
 use Rattle.job.specs.Statements.{Meaning}
@@ -29,7 +30,7 @@ Replies (Some (Error (UnknownStatement u))) m = m ≡ unreadable (unknown-statem
 Replies (Some (Error MissingFrequency)) m = m ≡ unreadable missing-frequency
 Replies (Some (Error (NotANumber u))) m = m ≡ unreadable (not-a-number (u .now))
 Replies (Some (Error (TooLarge u))) m = m ≡ unreadable (too-large (u .now))
-Replies (Some (Error OutOfMemory)) m = Unit {0}
+Replies (Some (Error OutOfMemory)) m = Takes-memory m
 
 abbrev pub reply-line : Reply → List ℕ
 reply-line (Answered a) = answer-line a
