@@ -8,11 +8,11 @@ use lib.Dec.{ltb}
 use Rattle.std.specs.Orderings.{When}
 use Rattle.std.proofs.shelf.Tests.{and-parts, leb-true, le-ltb}
 use Rattle.clock.specs.Farey.{following, term, terms-from}
-use Rattle.clock.specs.Walk.{ahead, sound, steps, Goes-on}
+use Rattle.clock.specs.Walk.{ahead-from, sound, steps, Goes-on}
 use Rattle.clock.specs.declared.fraction.Neighbours.{Neighbours}
 
 goes : (n place : ℕ) (p : Neighbours) → n ≡ 1229 - (place + 1) → place < 1229 → suc n ≡ 1229 - place → steps p ≡ true → sound n (following p) ≡ true → Goes-on place p
-unfolding ahead
+unfolding ahead-from
 goes n place p e left e′ s on =
     let s1 = and-parts _ _ s in
     let s2 = and-parts _ _ (s1 .0) in
@@ -44,6 +44,6 @@ ended-by (suc n) place p e w s =
     rw (le-ltb 63 (p .a) (g .a-small)) g
 
 pub ended : (place : ℕ) (p : Neighbours) → place ≤ 1229 → sound (1229 - place) p ≡ true →
-    When (ltb 63 (p .a)) (ahead place p ≡ []) (Goes-on place p)
-unfolding ahead
+    When (ltb 63 (p .a)) (ahead-from place p ≡ []) (Goes-on place p)
+unfolding ahead-from
 ended place p w s = ended-by (1229 - place) place p refl w s

@@ -1,6 +1,7 @@
 pub mod Divisors
 pub mod Farey
 pub mod Walk
+pub mod Sequence
 pub mod Divider
 pub mod Closest
 pub mod Search

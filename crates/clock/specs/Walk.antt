@@ -9,8 +9,8 @@ use Rattle.clock.specs.declared.fraction.Fraction.{Fraction}
 use Rattle.clock.specs.declared.fraction.Neighbours.{Neighbours}
 
 -- the terms that are yet to come where `place` of them were given
-unfoldable pub ahead : ℕ → Neighbours → List Fraction
-ahead place p = terms-from (1229 - place) p
+unfoldable pub ahead-from : ℕ → Neighbours → List Fraction
+ahead-from place p = terms-from (1229 - place) p
 
 -- the step from a pair to the following one is defined, within small numbers
 abbrev pub steps : Neighbours → Bool
@@ -33,5 +33,5 @@ pub record Goes-on (place : ℕ) (p : Neighbours) : Type 0 where
   pub d-small : p .d ≤ 63
   pub numerator : p .a ≤ factor p * p .c
   pub denominator : p .b ≤ factor p * p .d
-  pub here : ahead place p ≡ term p ∷ ahead (place + 1) (following p)
+  pub here : ahead-from place p ≡ term p ∷ ahead-from (place + 1) (following p)
   pub stays-sound : sound (1229 - (place + 1)) (following p) ≡ true

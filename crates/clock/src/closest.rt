@@ -10,7 +10,7 @@ ghost use Rattle.clock.specs.declared.closest.Term.{Term as FareyTerm};
 use crate::divider::ClockDivider;
 use crate::divider::ClockDividerDebug;
 use crate::divider::ClockDividerPartialEq;
-use crate::farey::farey_sequence;
+use crate::farey::walk::farey_sequence;
 use crate::fraction::Fraction;
 use crate::fraction::hcf;
 

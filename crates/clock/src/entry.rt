@@ -1,9 +1,8 @@
 // The search for callers in C and Rust: numbers in, one packed number out.
 ghost use mathlib.Core.Path.{_≡_};
-ghost use mathlib.Core.List.{[], _∷_};
 ghost use Prim.Native.Nat.{ℕ, _<_};
 ghost use Rattle.clock.specs.Laws.{Search-law, Fits-fields};
-ghost use Rattle.clock.specs.Packed.{packed, unpacked};
+ghost use Rattle.clock.specs.Packed.{lcd-cam-sources, packed, unpacked};
 ghost use Rattle.clock.specs.Search.{searched};
 ghost use Rattle.clock.specs.Search.Answer.{setting};
 ghost use Rattle.clock.specs.declared.divider.ClockDivider.{ClockDivider as Divider};
@@ -16,9 +15,9 @@ use crate::search::calculate_clkm;
 /// A refusal is 2,147,483,648 plus its number.
 #[unsafe(no_mangle)]
 pub extern "C" fn lcd_cam_calculate_clkm(frequency: u32, xtal: u32, pll_d2: u32, crypto: u32) -> u32
-    ensures packed { λ r. ⌜ r ≡ packed (searched frequency (xtal ∷ («pll_d2» ∷ (crypto ∷ [])))) ⌝ }
-    ensures unpacked { λ r. ⌜ unpacked r ≡ searched frequency (xtal ∷ («pll_d2» ∷ (crypto ∷ []))) ⌝ }
-    ensures law { λ r. ⌜ Search-law frequency (xtal ∷ («pll_d2» ∷ (crypto ∷ []))) (unpacked r) ⌝ }
+    ensures packed { λ r. ⌜ r ≡ packed (searched frequency (lcd-cam-sources xtal «pll_d2» crypto)) ⌝ }
+    ensures unpacked { λ r. ⌜ unpacked r ≡ searched frequency (lcd-cam-sources xtal «pll_d2» crypto) ⌝ }
+    ensures law { λ r. ⌜ Search-law frequency (lcd-cam-sources xtal «pll_d2» crypto) (unpacked r) ⌝ }
 {
     packed_reads_back(frequency, xtal, pll_d2, crypto);
     match calculate_clkm(frequency, &[xtal, pll_d2, crypto]) {
@@ -41,6 +40,6 @@ fn pack(index: usize, divider: &ClockDivider) -> u32
 
 // A packed answer over three sources reads back, since a setting fits its bits.
 fn packed_reads_back(frequency: u32, xtal: u32, pll_d2: u32, crypto: u32)
-    ensures reads { λ _. ⌜ unpacked (packed (searched frequency (xtal ∷ («pll_d2» ∷ (crypto ∷ []))))) ≡ searched frequency (xtal ∷ («pll_d2» ∷ (crypto ∷ []))) ⌝ }
-    ensures fits { λ _. ⌜ ((i : ℕ) (d : Divider) → setting i d ≡ searched frequency (xtal ∷ («pll_d2» ∷ (crypto ∷ []))) → (i < 3) × Fits-fields d) ⌝ }
+    ensures reads { λ _. ⌜ unpacked (packed (searched frequency (lcd-cam-sources xtal «pll_d2» crypto))) ≡ searched frequency (lcd-cam-sources xtal «pll_d2» crypto) ⌝ }
+    ensures fits { λ _. ⌜ ((i : ℕ) (d : Divider) → setting i d ≡ searched frequency (lcd-cam-sources xtal «pll_d2» crypto) → (i < 3) × Fits-fields d) ⌝ }
 {}

@@ -1,12 +1,12 @@
 use mathlib.Core.Path.{_≡_}
 use Prim.Native.Nat.{_+_, _-_}
 use Rattle.clock.specs.Closest.{first-not-below, least-term}
-use Rattle.clock.specs.Walk.{ahead}
+use Rattle.clock.specs.Sequence.{ahead}
 use Rattle.clock.proofs.closest.find_not_below.Given as given
 
 abbrev pub Inv-loop-curr : given.InvT-loop-curr
 Inv-loop-curr l =
-    first-not-below (ahead (l .sequence .place) (l .sequence .terms)) (l .sequence .place + 1)
+    first-not-below (ahead (l .sequence)) (l .sequence .place + 1)
     (l .target .numerator) (l .target .denominator)
     ≡ least-term (l .target .numerator) (l .target .denominator)
 
