@@ -12,7 +12,7 @@ use Rattle.std.specs.declared.option.Option.the-variants.{Some, None}
 use Rattle.std.proofs.shelf.Tests.{false≢true, cases-order, cases-lt, cond-both, eqb-true, eqb-false, ltb-true, ltb-false}
 use Rattle.std.proofs.shelf.Ways.{tells}
 use Rattle.clock.specs.Divider.{hertz, Not-above, Allowed, whole-part, numerator, denominator, divisor}
-use Rattle.clock.specs.Closest.{closest, divided, undivided, with-term, least-term, stored}
+use Rattle.clock.specs.Closest.{closest, divided, without-fraction, with-term, least-term, stored}
 use Rattle.clock.specs.Laws.{Fits-fields, From-below, Counts-its-place, Closest-from-below}
 use Rattle.clock.specs.declared.divider.ClockDivider.{ClockDivider}
 use Rattle.clock.specs.declared.closest.ClosestDivider.{ClosestDivider}
@@ -162,17 +162,17 @@ module _ (s r : ℕ) (pos : 0 < r) (many : 2 ≤ s / r) (few : s / r ≤ 256) wh
 
   by-remainder : Closest-cases s r (divided s r)
   by-remainder =
-      cond-both (eqb (s % r) 0) (undivided (stored (s / r))) (with-term (stored (s / r)) (least-term (s % r) r))
+      cond-both (eqb (s % r) 0) (without-fraction (stored (s / r))) (with-term (stored (s / r)) (least-term (s % r) r))
       (Closest-cases s r) (λ e. (few, exact (eqb-true _ _ e), plain-fits (stored (s / r)) (stored-fits (s / r) few), inl (refl, refl)))
       (λ e. by-term (least-term (s % r) r) refl (omega (arith, eqb-false _ _ e)))
 
 pub closest-cases : (s r : ℕ) → 0 < r → Closest-cases s r (closest s r)
 closest-cases s r pos =
     cond-both (eqb r 0) None
-    (cond (ltb (s / r) 2) (undivided 1) (cond (ltb 256 (s / r)) None (divided s r)))
+    (cond (ltb (s / r) 2) (without-fraction 1) (cond (ltb 256 (s / r)) None (divided s r)))
     (Closest-cases s r) (λ e. absurd (omega (arith, eqb-true _ _ e)))
     (λ _.
-    cond-both (ltb (s / r) 2) (undivided 1) (cond (ltb 256 (s / r)) None (divided s r)) (Closest-cases s r)
+    cond-both (ltb (s / r) 2) (without-fraction 1) (cond (ltb 256 (s / r)) None (divided s r)) (Closest-cases s r)
     (λ e. let less = ltb-true _ _ e in (omega arith, halved s r less pos, plain-fits 1 (omega arith), inl (refl, refl)))
     (λ e.
     cond-both (ltb 256 (s / r)) None (divided s r) (Closest-cases s r) (λ f. ltb-true _ _ f)

@@ -133,6 +133,11 @@ module _ (r : ℕ) (ss : List ℕ) (pos : 0 < r) where
       subst (Closest-cases (source (x .0)) r) (w .serves) (closest-cases (source (x .0)) r pos) in
       record {
         known-source = w .known;
+        wins = record {
+          serves = (record { divider = x .1; count = w .count }, w .serves, refl);
+          most-hertz = λ j c lt e. omega (arith, w .most j c lt e, w .has);
+          earlier-first = λ j c lt e. omega (arith, w .first j c lt e, w .has);
+        };
         fits-the-fields = law .2;
         never-above-asked = law .1 .never-above-asked;
         none-comes-closer = λ j e lt allowed above.

@@ -25,8 +25,8 @@ abbrev pub least-term : ℕ → ℕ → Option Term
 least-term x y = first-not-below F63 1 x y
 
 -- a whole part with no fraction; its count is 0
-abbrev pub undivided : ℕ → Option ClosestDivider
-undivided n = Some (record { divider = record { «div_num» = n; «div_b» = 0; «div_a» = 0 }; count = 0 })
+abbrev pub without-fraction : ℕ → Option ClosestDivider
+without-fraction n = Some (record { divider = record { «div_num» = n; «div_b» = 0; «div_a» = 0 }; count = 0 })
 
 -- a whole part with a term of F63; its count is the term's place
 abbrev pub with-term : ℕ → Option Term → Option ClosestDivider
@@ -45,9 +45,9 @@ stored n = cond (eqb n 256) 0 n
 -- where the quotient is from 2 to 256: no fraction where there is no remainder, else the least term not below it
 abbrev pub divided : ℕ → ℕ → Option ClosestDivider
 divided s r =
-    cond (eqb (s % r) 0) (undivided (stored (s / r))) (with-term (stored (s / r)) (least-term (s % r) r))
+    cond (eqb (s % r) 0) (without-fraction (stored (s / r))) (with-term (stored (s / r)) (least-term (s % r) r))
 
 -- below 2 the source is divided by 2, which `div_num` 1 stands for; above 256 it does not serve
 abbrev pub closest : ℕ → ℕ → Option ClosestDivider
 closest s r =
-    cond (eqb r 0) None (cond (ltb (s / r) 2) (undivided 1) (cond (ltb 256 (s / r)) None (divided s r)))
+    cond (eqb r 0) None (cond (ltb (s / r) 2) (without-fraction 1) (cond (ltb 256 (s / r)) None (divided s r)))

@@ -7,6 +7,7 @@ use lib.ListN.{length, getD}
 use Rattle.std.specs.declared.option.Option.{Option}
 use Rattle.std.specs.declared.option.Option.the-variants.{Some, None}
 use Rattle.clock.specs.Farey.{F63}
+use Rattle.clock.specs.Closest.{closest}
 use Rattle.clock.specs.Divider.{hertz, Not-above, Allowed}
 use Rattle.clock.specs.Search.{Answer}
 use Rattle.clock.specs.Search.Answer.{setting, refused}
@@ -59,10 +60,20 @@ pub record Closest-from-below (s r : ℕ) (o : Option ClosestDivider) : Type 0 w
   pub fits-the-fields : (c : ClosestDivider) → o ≡ Some c → Fits-fields (c .divider)
   pub counts-its-place : (c : ClosestDivider) → o ≡ Some c → Counts-its-place c
 
+-- the source at i wins with the divider d: it serves with d, no serving source has more whole hertz, and an earlier
+-- one has fewer
+pub record Wins (r : ℕ) (ss : List ℕ) (i : ℕ) (d : ClockDivider) : Type 0 where
+  pub serves : (c : ClosestDivider) × (closest (getD ss i 0) r ≡ Some c) × (c .divider ≡ d)
+  pub most-hertz : (j : ℕ) (c : ClosestDivider) → j < length ss → closest (getD ss j 0) r ≡ Some c
+      → hertz (getD ss j 0) (c .divider) ≤ hertz (getD ss i 0) d
+  pub earlier-first : (j : ℕ) (c : ClosestDivider) → j < i → closest (getD ss j 0) r ≡ Some c
+      → hertz (getD ss j 0) (c .divider) < hertz (getD ss i 0) d
+
 -- the setting of a list of sources: its output is not above r, no allowed setting of any source that is not above
 -- has more whole hertz, and one of an earlier source has fewer
 pub record Best-from-below (r : ℕ) (ss : List ℕ) (i : ℕ) (d : ClockDivider) : Type 0 where
   pub known-source : i < length ss
+  pub wins : Wins r ss i d
   pub fits-the-fields : Fits-fields d
   pub never-above-asked : Not-above (getD ss i 0) d r
   pub none-comes-closer : (j : ℕ) (e : ClockDivider) → j < length ss → Allowed e → Not-above (getD ss j 0) e r
