@@ -18,7 +18,7 @@ use Rattle.clock.specs.declared.closest.Term.{Term}
 use Rattle.clock.proofs.Between.{none-between, below-through}
 use Rattle.clock.proofs.Linked.{Linked, Ranges, Next, linked-ranges, F63-linked}
 
--- t/.. is below x/y
+-- t is below x/y
 abbrev pub Below : Fraction → ℕ → ℕ → Type 0
 Below t x y = t .numerator * y < x * t .denominator
 
@@ -35,9 +35,6 @@ pub record Found (ts : List Fraction) (k x y : ℕ) (u : Term) : Type 0 where
   pub ranges : Ranges (u .fraction)
   pub reached : x * u .fraction .denominator ≤ u .fraction .numerator * y
 
-pub linked-rest : (t u : Fraction) (ts : List Fraction) → Linked (t ∷ (u ∷ ts)) → Linked (u ∷ ts)
-linked-rest t u ts h = h .2
-
 next-found : (t : Fraction) (ts : List Fraction) (k x y : ℕ) (u : Term) → Found ts (k + 1) x y u → Found (t ∷ ts) k x y u
 next-found t ts k x y u f =
     record {
@@ -48,9 +45,6 @@ next-found t ts k x y u f =
       ranges = f .ranges;
       reached = f .reached;
     }
-
-some-is : {X : Type 0} (x y : X) → Some x ≡ Some y → x ≡ y
-some-is x y e = cc
 
 none-is : {X : Type 0} (x : X) → None ≡ Some x → ⊥
 none-is x e = let z : _≡_ {A = ℕ} 0 1 = cc in omega arith
