@@ -1,4 +1,6 @@
 // Job scripts: what a line says, and the answer to it.
+#![tactic(auto)]
+
 pub mod answer;
 pub mod ending;
 pub mod evaluate;

@@ -1,4 +1,6 @@
 // Answers a job script, a line at a time. The script is the file that the one argument names, or standard input.
+#![tactic(auto)]
+
 mod input;
 
 use input::{Line, next_line};

@@ -1,11 +1,11 @@
 use Rattle.clock.proofs.Scaled.{factor_positive, same_terms, zero_from, zero_to}
 use Rattle.clock.proofs.closest.lowest_terms.Goals as goal
 
-pub nonzero-div-result : goal.nonzero-div-result
-nonzero-div-result c = factor_positive c.args.numerator c.args.denominator _ c.requires c.hcf-gcd.ensures.greatest
+pub nonzero_div-result : goal.nonzero_div-result
+nonzero_div-result c = factor_positive c.args.numerator c.args.denominator _ c.requires c.hcf-gcd.ensures.greatest
 
-pub nonzero-div-result-2 : goal.nonzero-div-result-2
-nonzero-div-result-2 c = factor_positive c.args.numerator c.args.denominator _ c.requires c.hcf-gcd.ensures.greatest
+pub nonzero_div-result-2 : goal.nonzero_div-result-2
+nonzero_div-result-2 c = factor_positive c.args.numerator c.args.denominator _ c.requires c.hcf-gcd.ensures.greatest
 
 pub returns : goal.returns
 returns c =

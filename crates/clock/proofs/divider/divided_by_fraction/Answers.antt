@@ -3,8 +3,8 @@ use native.Mathlib.Nat.{div-le_of_le-mul}
 use Rattle.clock.proofs.divider.divided_by_fraction.Goals as goal
 
 -- the divisor is at least 1, so the quotient is at most the source
-pub overflow-cast-result-6 : goal.overflow-cast-result-6
-overflow-cast-result-6 c =
+pub overflow_cast-result-6 : goal.overflow_cast-result-6
+overflow_cast-result-6 c =
     let s = c.args.source in
     let n = c.args.n in
     let a = c.args.a in
@@ -13,5 +13,5 @@ overflow-cast-result-6 c =
     let bound : s * a / p ≤ s = div-le_of_le-mul p (omega (arith, mul-le-mul_left s whole)) in
     omega (arith, bound, c.ranges.source)
 
-pub nonzero-div-result : goal.nonzero-div-result
-nonzero-div-result c = omega (arith, mul-pos c.requires.0 c.requires.1)
+pub nonzero_div-result : goal.nonzero_div-result
+nonzero_div-result c = omega (arith, mul-pos c.requires.0 c.requires.1)

@@ -8,8 +8,8 @@ pub loop-b-init : goal.loop-b-init
 unfolding value
 loop-b-init c = (omega arith, (and_parts _ _ c.requires).1, refl)
 
-pub overflow-sub-b : goal.overflow-sub-b
-overflow-sub-b c =
+pub overflow_sub-b : goal.overflow_sub-b
+overflow_sub-b c =
     let here = digits_here c.args.digits.now c.loop-b.b-index c.loop-b-test.true c.loop-b.invariant.1 in
     (digit_range _ here.0).0
 
