@@ -11,18 +11,18 @@ some_digits (b ∷ bs) all =
     let some : ltb 0 (length (b ∷ bs)) ≡ true = lt-ltb 0 (length (b ∷ bs)) (omega arith) in
     ap not not_none ∙ sym (and_from _ _ some all)
 
-pub returns-then-not-is-ascii-digit : goal.returns-then-not-is-ascii-digit
-returns-then-not-is-ascii-digit c =
-    let off = digits_off c.args.word.now c.loop-b.b-index c.loop-b-test.true (sym c.if-not-is-ascii-digit.ensures.value) in
+pub returns-then-not-is_ascii_digit : goal.returns-then-not-is_ascii_digit
+returns-then-not-is_ascii_digit c =
+    let off = digits_off c.args.word.now c.loop-b.b-index c.loop-b-test.true (sym c.if-not-is_ascii_digit.ensures.value) in
     sym (and_right (ltb 0 (length c.args.word.now)) _ (c.loop-b.invariant ∙ off))
 
 pub loop-b-preserved : goal.loop-b-preserved
 loop-b-preserved c =
     c.loop-b.invariant
-    ∙ digits_on c.args.word.now c.loop-b.b-index c.loop-b-test.true (sym c.if-not-is-ascii-digit.ensures.value)
+    ∙ digits_on c.args.word.now c.loop-b.b-index c.loop-b-test.true (sym c.if-not-is_ascii_digit.ensures.value)
 
 pub returns : goal.returns
 returns c =
-    ap not c.is-empty.ensures
+    ap not c.is_empty.ensures
     ∙ some_digits c.args.word.now
     (c.loop-b.invariant ∙ digits_end c.args.word.now c.loop-b.b-index c.loop-b-test.false)

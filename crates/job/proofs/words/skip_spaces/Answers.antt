@@ -23,6 +23,6 @@ returns c =
     record {
       same = c.loop-first.invariant.0;
       within = c.loop-first.invariant.1;
-      starts = λ some _. omega (arith, c.in-default.ensures.cases);
+      starts = λ some _. omega (arith, c.in_default.ensures.cases);
       none = no_words _;
     }

@@ -3,4 +3,4 @@ use Rattle.board.proofs.word_board.WordBoardBoard.write.Goals as goal
 
 pub returns : goal.returns
 unfolding written
-returns c = record { after = c.write-word.ensures }
+returns c = record { after = c.write_word.ensures }

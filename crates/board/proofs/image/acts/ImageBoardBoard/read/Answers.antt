@@ -3,4 +3,4 @@ use Rattle.board.proofs.image.acts.ImageBoardBoard.read.Goals as goal
 
 pub returns : goal.returns
 unfolding read
-returns c = c.read-word.ensures
+returns c = c.read_word.ensures
