@@ -1,5 +1,5 @@
 -- A clean image stays clean, reads as it is, and words of no register are kept.
-use Rattle.std.proofs.Common.{◌≡◌, ℕ, zero, suc, ◌+◌, ◌*◌, ◌/◌, ◌%◌, ◌^◌, ◌<◌, ◌≤◌, Bool, true, false, cond, eqb, ◌⊎◌, List, [], ◌∷◌, length, get_or, set, sym, refl, ap, ◌∙◌, ap₂, inl, inr, ⊎_elim, le_of_suc-le-suc, not-suc-le-zero, zero-add, arith}
+use Rattle.std.proofs.Common.{◌≡◌, ℕ, zero, suc, ◌+◌, ◌*◌, ◌/◌, ◌%◌, ◌^◌, ◌<◌, ◌≤◌, Bool, true, false, cond, eqb, ◌⊎◌, List, [], ◌∷◌, length, get_or, sym, refl, ap, ◌∙◌, ap₂, inl, inr, ⊎_elim, le_of_suc-le-suc, not-suc-le-zero, zero-add, arith}
 use mathlib.Core.Path.{fun_ext}
 use lib.Bits.{bit_and, and_mask}
 use Rattle.std.proofs.lemmas.Nat.{mod_below, field_of}
@@ -7,13 +7,11 @@ use Rattle.std.proofs.lemmas.Bool.{eqb-true, ne_eqb}
 use Rattle.std.proofs.lemmas.Bool.Decides.{nat_tests}
 use Rattle.board.proofs.ImageBoards.{same_side}
 use Rattle.board.proofs.ImageWrites.{stored_at, update_leaves, index_small, mark_large}
-use Rattle.board.proofs.Images.{masked_set}
 use Rattle.board.proofs.Masks.{and_twice, and_unseen, passes_bit, put_back, and_with_bit}
 use Rattle.board.proofs.Parts.{put_reads_back}
 use Rattle.board.proofs.Variants.{each}
-use Rattle.board.specs.Controls.{requested}
 use Rattle.board.specs.Fields.{part, put_part, bit, flag, stored, stored_mask}
-use Rattle.board.specs.Images.{mark_place, start_in, control_in, endless_side, stored_from, image, masks, read_mask, masked, marks, first, count, n_in_force, put_in_force, stored_in, updated_in, control_after, image_written, KeptPlace}
+use Rattle.board.specs.Images.{mark_place, start_in, control_in, stored_from, image, masks, read_mask, masked, marks, control_after, image_written, KeptPlace}
 use Rattle.board.specs.Registers.{index, side}
 use Rattle.board.specs.States.{with_start, read_on}
 use Rattle.board.specs.contracts.register.Register as regs

@@ -1,20 +1,18 @@
 -- What a write, a read and a poll of an image make of the board that it holds.
-use Rattle.std.proofs.Common.{◌≡◌, ℕ, ◌/◌, ◌%◌, Bool, true, false, cond, eqb, List, length, get_or, sym, refl, ap, ◌∙◌, subst, ap₂, arith}
+use Rattle.std.proofs.Common.{◌≡◌, ℕ, ◌/◌, ◌%◌, Bool, true, false, cond, eqb, List, length, sym, refl, ap, ◌∙◌, subst, ap₂, arith}
 use Rattle.board.proofs.ImageWrites.{written_at, not_same, in_force_of, in_force_other, mark_at, control_other, start_after, marks_reset, marks_afifo, written_endless}
 use Rattle.board.specs.Controls.{requested, controlled}
 use Rattle.board.specs.Fields.{stored}
 use Rattle.board.specs.Images.{control_in, control_after, endless_side, stored_from, image, image_written}
 use Rattle.board.specs.Registers.{side, same_register}
-use Rattle.board.specs.States.{SideState, BoardState, side_written, side_polled, written_on, polled_on}
-use Rattle.board.specs.Words.{panel_words, camera_words, panel_word, camera_word, with_panel_word, with_camera_word, replaced}
+use Rattle.board.specs.States.{SideState, side_written, side_polled, written_on, polled_on}
+use Rattle.board.specs.Words.{panel_words, camera_words, panel_word, camera_word, replaced}
 use Rattle.board.specs.declared.control.Control.{Control}
 use Rattle.board.specs.declared.register.Register.{Register}
 use Rattle.board.specs.declared.register.Register.TheVariants.{LcdClock, LcdUser, LcdMisc, LcdCtrl, LcdCtrl1, LcdCtrl2, LcdRgbYuv, LcdDlyMode, LcdDataDoutMode, CamCtrl, CamCtrl1, CamRgbYuv}
 use Rattle.board.specs.declared.register.Side.{Side}
 use Rattle.board.specs.declared.register.Side.TheVariants.{Panel, Camera}
 use Rattle.board.specs.declared.sources.Sources.{Sources}
-use Rattle.board.specs.declared.words.PanelWords.{PanelWords}
-use Rattle.board.specs.declared.words.CameraWords.{CameraWords}
 
 -- words are equal where those of the side's registers are
 same_panel : (a b : Register → ℕ) → ((q : Register) → side q ≡ Panel → a q ≡ b q) → panel_words a ≡ panel_words b

@@ -9,11 +9,11 @@ use Rattle.board.proofs.Parts.{put_reads_back}
 use Rattle.board.proofs.Variants.{each, number, number_one}
 use Rattle.board.specs.Controls.{requested, marked, started, controlled}
 use Rattle.board.specs.Fields.{part, put_part, bit, flag, stored, stored_mask}
-use Rattle.board.specs.Images.{mark_place, start_in, control_in, endless_side, stored_from, image, masks, marks, first, count, n_in_force, put_in_force, stored_in, updated_in, control_after, image_written}
+use Rattle.board.specs.Images.{mark_place, start_in, control_in, endless_side, stored_from, masks, marks, first, count, n_in_force, put_in_force, stored_in, updated_in, control_after, image_written}
 use Rattle.board.specs.Registers.{index, side, same_register}
-use Rattle.board.specs.States.{SideState, BoardState, Polls, left_after, side_written, with_start, written_on}
+use Rattle.board.specs.States.{left_after, side_written, with_start}
 use Rattle.board.specs.States.Polls.{ending, endless}
-use Rattle.board.specs.Words.{panel_words, camera_words, panel_word, camera_word, with_panel_word, with_camera_word, replaced}
+use Rattle.board.specs.Words.{replaced}
 use Rattle.board.specs.contracts.register.Register as regs
 use Rattle.board.specs.declared.control.Control.{Control}
 use Rattle.board.specs.declared.control.Request.{Request}
@@ -22,9 +22,6 @@ use Rattle.board.specs.declared.register.Register.{Register}
 use Rattle.board.specs.declared.register.Register.TheVariants.{LcdClock, LcdUser, LcdMisc, LcdCtrl, LcdCtrl1, LcdCtrl2, LcdRgbYuv, LcdDlyMode, LcdDataDoutMode, CamCtrl, CamCtrl1, CamRgbYuv}
 use Rattle.board.specs.declared.register.Side.{Side}
 use Rattle.board.specs.declared.register.Side.TheVariants.{Panel, Camera}
-use Rattle.board.specs.declared.sources.Sources.{Sources}
-use Rattle.board.specs.declared.words.PanelWords.{PanelWords}
-use Rattle.board.specs.declared.words.CameraWords.{CameraWords}
 
 -- a word of a list with one replaced
 pub at_set : (ws : List ℕ) (i v k : ℕ) → i < length ws → get_or (set ws i v) k 0 ≡ cond (eqb k i) v (get_or ws k 0)

@@ -1,8 +1,8 @@
 -- A word under a mask: twice is once, and a value put into some bits of either.
-use Rattle.std.proofs.Common.{◌≡◌, ℕ, zero, suc, ◌+◌, ◌-◌, ◌*◌, ◌/◌, ◌%◌, ◌^◌, ◌<◌, ◌≤◌, min, sym, refl, ap, ◌∙◌, ap₂, mul_comm, zero-mul, arith}
-use lib.Bits.{bit_and, and_step, and_block, and_zero_l, and_zero_r, and_shr, and_mod, and_mask, and_self, and_comm}
-use Rattle.std.proofs.lemmas.Nat.{pow_pos, mod_below, div-mul-add, mod-mul-add, shr_below, mod_low, shr_high}
-use Rattle.board.proofs.Parts.{split, put_split, put_above, put_below, put_reads_back, value_below, rest_below, low_below}
+use Rattle.std.proofs.Common.{◌≡◌, ℕ, zero, suc, ◌+◌, ◌*◌, ◌/◌, ◌%◌, ◌^◌, ◌<◌, ◌≤◌, min, sym, ap, ◌∙◌, ap₂, zero-mul, arith}
+use lib.Bits.{bit_and, and_step, and_block, and_zero_l, and_zero_r, and_shr, and_mod, and_mask, and_comm}
+use Rattle.std.proofs.lemmas.Nat.{mod_below, div-mul-add, mod-mul-add}
+use Rattle.board.proofs.Parts.{split, put_above, put_below, put_reads_back, rest_below, low_below}
 use Rattle.board.specs.Fields.{part, put_part}
 
 -- what passes a mask passes it again

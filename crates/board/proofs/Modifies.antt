@@ -1,5 +1,5 @@
 -- The law of a change of one field.
-use Rattle.std.proofs.Common.{◌≡◌, ℕ, ◌-◌, ◌/◌, ◌%◌, ◌^◌, ◌<◌, Bool, true, false, cond, eqb, ◌⊎◌, sym, refl, ap, ◌∙◌, subst, inl, inr}
+use Rattle.std.proofs.Common.{◌≡◌, ℕ, ◌-◌, ◌/◌, ◌%◌, ◌^◌, Bool, true, false, cond, eqb, sym, refl, ap, ◌∙◌, inl, inr}
 use lib.Bits.{bit_and, and_mask, and_zero_r}
 use native.Mathlib.Nat.{mod-mod}
 use Rattle.std.proofs.lemmas.Bool.{cases_Bool, eqb-true, eq-eqb, false≢true}
@@ -10,15 +10,15 @@ use Rattle.board.proofs.Puts.{put_law}
 use Rattle.board.proofs.Variants.{each, number}
 use Rattle.board.specs.Controls.{requested}
 use Rattle.board.specs.Fields.{part, field, put, bit, stores, stored, stored_mask}
-use Rattle.board.specs.Modifications.{written_field, field_in_force, modified, ModifyLaw}
+use Rattle.board.specs.Modifications.{written_field, modified, ModifyLaw}
 use Rattle.board.specs.Registers.{index, side, same_register}
-use Rattle.board.specs.States.{BoardState, read, read_on, with_start, written, written_on, word_on, written_word, word_in_force}
+use Rattle.board.specs.States.{BoardState, read, written, written_on, word_on, written_word, word_in_force}
 use Rattle.board.specs.Table.{place}
-use Rattle.board.specs.Words.{replaced, panel_word, camera_word, panel_words, camera_words, with_panel_word, with_camera_word}
+use Rattle.board.specs.Words.{replaced, panel_word, camera_word, with_panel_word, with_camera_word}
 use Rattle.board.specs.contracts.field.Field as fields
 use Rattle.board.specs.declared.field.Field.{Field}
 use Rattle.board.specs.declared.field.Field.TheVariants.{LcdStart, CamStart, LcdUpdate, CamUpdate}
-use Rattle.board.specs.declared.field.Role.TheVariants.{Update, Start}
+use Rattle.board.specs.declared.field.Role.TheVariants.{Update}
 use Rattle.board.specs.declared.register.Register.{Register}
 use Rattle.board.specs.declared.register.Register.TheVariants.{LcdClock, LcdUser, LcdMisc, LcdCtrl, LcdCtrl1, LcdCtrl2, LcdRgbYuv, LcdDlyMode, LcdDataDoutMode, CamCtrl, CamCtrl1, CamRgbYuv}
 use Rattle.board.specs.declared.register.Side.{Side}

@@ -1,5 +1,5 @@
 -- Some bits of a word, taken out and exchanged: over the width, for all fields at once.
-use Rattle.std.proofs.Common.{◌≡◌, ℕ, ◌+◌, ◌-◌, ◌*◌, ◌/◌, ◌%◌, ◌^◌, ◌<◌, ◌≤◌, ◌⊎◌, sym, ap, ◌∙◌, inl, inr, mul_comm, arith}
+use Rattle.std.proofs.Common.{◌≡◌, ℕ, ◌+◌, ◌-◌, ◌*◌, ◌/◌, ◌%◌, ◌^◌, ◌<◌, ◌≤◌, sym, ap, ◌∙◌, inl, inr, mul_comm, arith}
 use Rattle.std.proofs.lemmas.Nat.{pow_pos, shr_split, mod-pow-add, mod_below, mul-add-lt, shr_below, shr_high, mod_low, field_of, shr-shr, pow-add}
 use Rattle.board.specs.Fields.{part, put_part}
 use Rattle.board.specs.FieldLaws.{Apart}

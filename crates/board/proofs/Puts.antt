@@ -1,5 +1,5 @@
 -- A value that is put into a field.
-use Rattle.std.proofs.Common.{ℕ, ◌+◌, ◌≤◌, refl, ◌∙◌, add_comm, arith}
+use Rattle.std.proofs.Common.{ℕ, ◌+◌, ◌≤◌, refl, ◌∙◌, arith}
 use Rattle.board.proofs.Parts.{put_reads_back, put_leaves, put_fits}
 use Rattle.board.proofs.Rows.{table_law}
 use Rattle.board.specs.FieldLaws.{PutLaw}

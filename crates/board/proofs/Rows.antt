@@ -1,12 +1,11 @@
 -- The table of fields: each field stands once in the row of its register, and the rows are in order.
-use Rattle.std.proofs.Common.{◌≡◌, ℕ, ◌+◌, ◌≤◌, Bool, true, false, ◌&&◌, ◌||◌, eqb, leb, ◌⊎◌, List, [], ◌∷◌, sym, refl, ap, ◌∙◌, subst, inl, inr, arith}
+use Rattle.std.proofs.Common.{◌≡◌, ℕ, ◌+◌, ◌≤◌, Bool, true, false, ◌||◌, eqb, leb, ◌⊎◌, List, [], ◌∷◌, sym, refl, ◌∙◌, subst, inl, inr, arith}
 use mathlib.Core.List.{Memᴰ}
 use Rattle.std.proofs.lemmas.Bool.{and_parts, or_cases, leb-true, eqb-true, false≢true}
 use Rattle.board.proofs.Variants.{each, number, number_one}
-use Rattle.board.specs.Fields.{in_order, all_in_order}
+use Rattle.board.specs.Fields.{in_order}
 use Rattle.board.specs.FieldLaws.{Apart, TableLaw}
-use Rattle.board.specs.Registers.{same_register}
-use Rattle.board.specs.Table.{place, fields_of, registers}
+use Rattle.board.specs.Table.{place, fields_of}
 use Rattle.board.specs.contracts.field.Field as fields
 use Rattle.board.specs.contracts.register.Register as regs
 use Rattle.board.specs.declared.field.Field.{Field}

@@ -1,5 +1,5 @@
 -- Every variant of an enum whose variants hold nothing: a test of all of them by computation, and their numbers.
-use Rattle.std.proofs.Common.{◌≡◌, ℕ, zero, suc, Bool, true, false, ◌&&◌, ◌⊎◌, List, [], ◌∷◌, refl, ap, subst, inl, inr, arith}
+use Rattle.std.proofs.Common.{◌≡◌, ℕ, suc, Bool, true, false, ◌&&◌, List, [], ◌∷◌, refl, ap, subst, inl, inr, arith}
 use denote.Enum.Declared.{Choice, Record, values_one}
 use denote.Struct.Field.{Field}
 use Rattle.std.proofs.lemmas.Bool.{and_parts, false≢true}

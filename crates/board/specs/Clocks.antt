@@ -1,10 +1,8 @@
 -- The clock of a side: the output of its setting in force.
 use Rattle.std.specs.Prelude.{ℕ, cond, ◌==◌}
 use Rattle.clock.specs.Divider.{hertz}
-use Rattle.clock.specs.declared.divider.ClockDivider.{ClockDivider}
 use Rattle.board.specs.Fields.{field}
 use Rattle.board.specs.States.{BoardState, word_in_force}
-use Rattle.board.specs.declared.field.Field.{Field}
 use Rattle.board.specs.declared.field.Field.TheVariants.{LcdClkSel, LcdClkmDivNum, LcdClkmDivB, LcdClkmDivA, CamClkSel, CamClkmDivNum, CamClkmDivB, CamClkmDivA}
 use Rattle.board.specs.declared.register.Register.TheVariants.{LcdClock, CamCtrl}
 use Rattle.board.specs.declared.register.Side.{Side}

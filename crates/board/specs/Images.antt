@@ -5,7 +5,7 @@ use Rattle.std.specs.Prelude.{◌≡◌, ℕ, zero, suc, ◌+◌, ◌-◌, ◌*�
 use Rattle.board.specs.Controls.{requested, controlled}
 use Rattle.board.specs.Fields.{flag, bit, stored, stored_mask}
 use Rattle.board.specs.Registers.{index, side}
-use Rattle.board.specs.States.{SideState, BoardState, Polls, with_start}
+use Rattle.board.specs.States.{SideState, BoardState, with_start}
 use Rattle.board.specs.States.Polls.{ending, endless}
 use Rattle.board.specs.Table.{registers}
 use Rattle.board.specs.Words.{panel_words, camera_words}

@@ -1,6 +1,6 @@
 -- What a word board means.
 use Rattle.std.specs.Prelude.{ℕ, min, max, false}
-use Rattle.board.specs.States.{SideState, BoardState, Polls, SpansHold}
+use Rattle.board.specs.States.{SideState, BoardState, SpansHold}
 use Rattle.board.specs.States.Polls.{ending}
 use Rattle.board.specs.Words.{panel_words, camera_words}
 use Rattle.board.specs.declared.control.Control.{Control}
