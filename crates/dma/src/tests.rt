@@ -5,7 +5,7 @@ use crate::counting::CountingChannel;
 use crate::error::DmaError;
 use crate::frame::FrameBuffer;
 use crate::load::Load;
-use crate::strips::{StripBuffer, View as _};
+use crate::strips::StripBuffer;
 use crate::table::TableChannel;
 use std::alloc::{AllocError, Global};
 use std::test::Fail;

@@ -41,7 +41,7 @@ impl fmt::Display for Escaped<'_> {
 
 // It calls itself for each byte, of which there are few.
 fn show_bytes<W: fmt::Write>(bytes: &[u8], f: &mut fmt::Formatter<W>) -> fmt::Result
-    ensures { WritesOnOk write_str_gives f.old result (escaped bytes.now) f.new }
+    ensures { WritesOnOk W.write_str_gives f.old result (escaped bytes.now) f.new }
 {
     let Some((first, rest)) = bytes.split_first() else {
         return Ok(());
@@ -51,7 +51,7 @@ fn show_bytes<W: fmt::Write>(bytes: &[u8], f: &mut fmt::Formatter<W>) -> fmt::Re
 }
 
 fn show_byte<W: fmt::Write>(b: u8, f: &mut fmt::Formatter<W>) -> fmt::Result
-    ensures { WritesOnOk write_str_gives f.old result (escaped_byte b) f.new }
+    ensures { WritesOnOk W.write_str_gives f.old result (escaped_byte b) f.new }
 {
     if is_plain(b) {
         f.write_char(b as char)

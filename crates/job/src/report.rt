@@ -110,7 +110,7 @@ impl fmt::Display for RegisterLines<'_> {
 
 // It calls itself for each line, of which there are few.
 fn show_lines<W: fmt::Write>(lines: &[RegisterLine], f: &mut fmt::Formatter<W>) -> fmt::Result
-    ensures { WritesOnOk write_str_gives f.old result (lines_text lines.now) f.new }
+    ensures { WritesOnOk W.write_str_gives f.old result (lines_text lines.now) f.new }
 {
     let Some((first, rest)) = lines.split_first() else {
         return Ok(());

@@ -13,8 +13,8 @@ overflow_sub-b c =
     let here = digits_here c.args.digits.now c.loop-b.b-index c.loop-b-test.true c.loop-b.invariant.1 in
     (digit_range _ here.0).0
 
-pub returns-then-value_from : goal.returns-then-value_from
-returns-then-value_from c =
+pub returns-then-value-from : goal.returns-then-value-from
+returns-then-value-from c =
     let step = value_on c.loop-b.value c.args.digits.now c.loop-b.b-index c.loop-b-test.true in
     omega (arith, c.loop-b.invariant.2 ∙ step, value_grows (10 * c.loop-b.value + c.from.result) (drop (c.loop-b.b-index + 1) c.args.digits.now), ap (λ (d : ℕ). value_after (10 * c.loop-b.value + d) (drop (c.loop-b.b-index + 1) c.args.digits.now)) c.from.ensures)
 

@@ -12,4 +12,4 @@ pub returns-else-is_plain : goal.returns-else-is_plain
 returns-else-is_plain g c plain ok =
     has_written_of_eq g.W.Write.write_str_gives _ _ _ _
     (other_shown c.args.b _ _ (omega arith) c.if-is_plain.ensures c.hex_digit-high.ensures c.hex_digit-low.ensures)
-    (c.write.ensures.shows plain ok)
+    (c.write.ensures.writes plain ok)

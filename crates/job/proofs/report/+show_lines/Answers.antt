@@ -14,4 +14,4 @@ returns g t c plain ok =
     has_written_of_eq g.W.Write.write_str_gives _ _ _ _ (sym (ap lines_text c.in-Some.ensures.cases.0))
     (writes_on_IsOk-append g.W.Write.write_str_gives c.args.f.now c.write.new.self c.show_lines.new.f
     c.write.result c.show_lines.result (register_text c.in-Some.first.now ++ codes "\n") (lines_text c.in-Some.rest.now)
-    (λ _. ap is_ok c.in_ok-write.was) c.write.ensures.shows c.show_lines.ensures plain ok)
+    (λ _. ap is_ok c.in_ok-write.was) c.write.ensures.writes c.show_lines.ensures plain ok)
