@@ -1,5 +1,5 @@
 -- What can be seen of a board, and how it is printed.
-use Rattle.std.specs.Prelude.{ℕ, Bool, List, [], ◌∷◌, ◌++◌, map, codes, decimal}
+use Rattle.std.specs.Prelude.{ℕ, List, [], ◌∷◌, ◌++◌, map, codes, decimal}
 use Rattle.board.specs.Clocks.{side_hertz}
 use Rattle.board.specs.Fields.{bit}
 use Rattle.board.specs.Registers.{name}
