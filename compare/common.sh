@@ -40,10 +40,10 @@ need_clock_lib() {
         [ -f "$clock_lib" ] || fail "CLOCK_LIB names no file: $CLOCK_LIB"
         return
     fi
-    if [ -f "$clock_lib" ] && [ -z "$(find "$root/crates/clock/src" -newer "$clock_lib")" ]; then
+    if [ -f "$clock_lib" ] && [ -z "$(find "$root/crates/clock/src" "$root/crates/clock_c/src" -newer "$clock_lib")" ]; then
         return
     fi
-    (cd "$root" && rt staticlib clock) || fail "rt staticlib clock failed"
+    "$root/tools/clock-library" || fail "tools/clock-library failed"
 }
 
 # Builds src/$1.rs to $out/$1; further arguments go to rustc.

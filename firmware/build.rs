@@ -1,4 +1,4 @@
-//! Links the static library of the crate `clock`.
+//! Links the static library of the clock search, which `tools/clock-library` writes.
 
 use std::path::{Path, PathBuf};
 use std::{env, process};
@@ -15,7 +15,7 @@ fn main() {
 
     let Ok(library) = library.canonicalize() else {
         eprintln!("There is no {}.", library.display());
-        eprintln!("Run `rt staticlib clock` in the repository's root, which proves and writes it,");
+        eprintln!("Run `tools/clock-library` in the repository's root, which proves and writes it,");
         eprintln!("or set CLOCK_LIB to the path of a libclock.a.");
         process::exit(1);
     };

@@ -80,7 +80,7 @@ pub fn calculate_closest_divider(
 fn lowest_terms(numerator: u32, denominator: u32) -> Fraction
     requires { 0 < denominator }
     ensures same { least_term result.numerator result.denominator ≡ least_term numerator denominator }
-    ensures some { ((result.numerator ≡ 0 → numerator ≡ 0)) × ((numerator ≡ 0 → result.numerator ≡ 0)) }
+    ensures some { (result.numerator ≡ 0 → numerator ≡ 0) × (numerator ≡ 0 → result.numerator ≡ 0) }
 {
     let gcd = hcf(numerator, denominator);
     Fraction {

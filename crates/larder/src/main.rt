@@ -10,16 +10,22 @@ use std::alloc::Global;
 use std::env::Args;
 use std::fs::File;
 use std::io::{BufReader, BufWriter, Read, Write};
+use std::process::ExitCode;
 use std::{env, io};
 
 // Room for a line at the start. It holds what the reader passes on at once, so that a line for which there is no more
 // memory can still be read to its end.
 const ROOM: usize = 65536;
 
-fn main(rt: HostRuntime) -> io::Result<()> {
-    match env::args(&rt) {
+fn main(rt: HostRuntime) -> ExitCode {
+    let res = match env::args(&rt) {
         Ok(args) => run(&rt, args),
         Err(e) => said(&rt, "arguments", Err(e)),
+    };
+    // What went wrong is said already: an error that `main` returned would be printed once more.
+    match res {
+        Ok(()) => ExitCode::SUCCESS,
+        Err(_) => ExitCode::FAILURE,
     }
 }
 
