@@ -1,21 +1,17 @@
--- A packed answer reads back where its numbers fit their bits.
-use Rattle.std.proofs.Common.{◌≡◌, ℕ, ◌+◌, ◌-◌, ◌*◌, ◌/◌, ◌%◌, ◌^◌, ◌<◌, true, false, leb, sym, refl, ap, ◌∙◌, mod-eq_of_lt, arith}
-use Rattle.std.proofs.lemmas.Bool.{le-leb, lt-leb}
+-- A packed setting reads back where its numbers fit their bits.
+use Rattle.std.proofs.Common.{◌≡◌, ℕ, ◌+◌, ◌-◌, ◌*◌, ◌/◌, ◌%◌, ◌^◌, ◌<◌, false, leb, sym, ap, ◌∙◌, mod-eq_of_lt, arith}
+use Rattle.std.proofs.lemmas.Bool.{lt-leb}
 use Rattle.clock.specs.Laws.{FitsFields}
 use Rattle.clock.specs.Packed.{lcd_cam_sources, packed, unpacked}
-use Rattle.clock.specs.Search.{Answer, searched}
-use Rattle.clock.specs.Search.Answer.{setting, refused}
+use Rattle.clock.specs.Search.{searched}
+use Rattle.clock.specs.Search.Answer.{setting}
 use Rattle.clock.specs.declared.divider.ClockDivider.{ClockDivider}
 use Rattle.clock.proofs.Sources.{search_law}
-
--- a setting of one of three sources, whose divider fits the register fields
-abbrev pub FitsWord : Answer → Type 0
-FitsWord a = (i : ℕ) (d : ClockDivider) → setting i d ≡ a → (i < 3) × FitsFields d
 
 two_bits : (i : ℕ) → i < 3 → (i + 1) % 2 ^ 2 - 1 ≡ i
 two_bits i lt = let whole : (i + 1) % 2 ^ 2 ≡ i + 1 = mod-eq_of_lt (omega arith) in omega arith
 
-setting_reads : (i : ℕ) (d : ClockDivider) → i < 3 → FitsFields d → unpacked (packed (setting i d)) ≡ setting i d
+pub setting_reads : (i : ℕ) (d : ClockDivider) → i < 3 → FitsFields d → unpacked (packed (setting i d)) ≡ setting i d
 setting_reads i d lt fits =
     let w = packed (setting i d) in
     let n = d.div_num in
@@ -36,20 +32,8 @@ setting_reads i d lt fits =
     let ei : w / 2 ^ 20 % 2 ^ 2 - 1 ≡ i = ap (λ (q : ℕ). q % 2 ^ 2 - 1) above_a ∙ two_bits i lt in
     rw test (λ k. setting (ei k) (record { div_num = en k; div_b = eb k; div_a = ea k }))
 
-refused_reads : (n : ℕ) → unpacked (packed (refused n)) ≡ refused n
-refused_reads n =
-    let test : leb (2 ^ 31) (2 ^ 31 + n) ≡ true = le-leb _ _ (omega arith) in
-    let en : 2 ^ 31 + n - 2 ^ 31 ≡ n = omega arith in
-    rw test (ap refused en)
-
-reads_back : (a : Answer) → FitsWord a → unpacked (packed a) ≡ a
-reads_back (setting i d) fits = let f = fits i d refl in setting_reads i d f.0 f.1
-reads_back (refused n) fits = refused_reads n
-
-pub three_fit : (r x y z : ℕ) → FitsWord (searched r (lcd_cam_sources x y z))
+-- the setting that the rules give for three sources fits
+pub three_fit : (r x y z i : ℕ) (d : ClockDivider) → setting i d ≡ searched r (lcd_cam_sources x y z) → (i < 3) × FitsFields d
 three_fit r x y z i d e =
     let best = (search_law r (lcd_cam_sources x y z)).best i d (sym e) in
     (best.known_source, best.fits_the_fields)
-
-pub three_read_back : (r x y z : ℕ) → unpacked (packed (searched r (lcd_cam_sources x y z))) ≡ searched r (lcd_cam_sources x y z)
-three_read_back r x y z = reads_back (searched r (lcd_cam_sources x y z)) (three_fit r x y z)

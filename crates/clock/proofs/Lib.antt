@@ -9,3 +9,5 @@ pub mod OneSource
 pub mod Sources
 pub mod Scaled
 pub mod Bits
+pub mod Computed
+pub mod Start

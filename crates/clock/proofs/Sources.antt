@@ -5,7 +5,7 @@ use Rattle.std.proofs.lemmas.List.{drop_more, drop_all}
 use Rattle.std.proofs.lemmas.Bool.{cases_lt, cond_both, ltb-true, ltb-false, eqb-true, eqb-false}
 use Rattle.clock.specs.Divider.{hertz, NotAbove, Allowed}
 use Rattle.clock.specs.Closest.{closest}
-use Rattle.clock.specs.Search.{nothing, considered, best_from, answered, searched}
+use Rattle.clock.specs.Search.{serving, considered, best_from, answered, searched}
 use Rattle.clock.specs.Search.Answer.{refused}
 use Rattle.clock.specs.Laws.{BestFromBelow, SearchLaw}
 use Rattle.clock.specs.declared.divider.ClockDivider.{ClockDivider}
@@ -15,18 +15,18 @@ use Rattle.clock.proofs.OneSource.{ClosestCases, closest_cases, allowed_serves}
 
 -- the sources are given by their index
 module _ (r : ℕ) (at : ℕ → ℕ) where
-  -- x is the best of the first i sources, with the whole hertz h
-  record Winner (i h : ℕ) (x : ℕ × ClockDivider) : Type 0 where
-    known : x.0 < i
+  -- b is the best of the first i sources
+  record Winner (i : ℕ) (b : Best) : Type 0 where
+    known : b.index < i
     count : ℕ
-    serves : closest (at x.0) r ≡ Some (record { divider = x.1; count = count })
-    has : h ≡ hertz (at x.0) x.1
-    most : (j : ℕ) (c : ClosestDivider) → j < i → closest (at j) r ≡ Some c → hertz (at j) c.divider ≤ h
-    first : (j : ℕ) (c : ClosestDivider) → j < x.0 → closest (at j) r ≡ Some c → hertz (at j) c.divider < h
+    serves : closest (at b.index) r ≡ Some (record { divider = b.divider; count = count })
+    has : b.freq ≡ hertz (at b.index) b.divider
+    most : (j : ℕ) (c : ClosestDivider) → j < i → closest (at j) r ≡ Some c → hertz (at j) c.divider ≤ b.freq
+    first : (j : ℕ) (c : ClosestDivider) → j < b.index → closest (at j) r ≡ Some c → hertz (at j) c.divider < b.freq
 
-  abbrev SoFar : ℕ → Option (ℕ × ClockDivider) → ℕ → Type 0
-  SoFar i None h = (j : ℕ) → j < i → closest (at j) r ≡ None
-  SoFar i (Some x) h = Winner i h x
+  abbrev SoFar : ℕ → Option Best → Type 0
+  SoFar i None = (j : ℕ) → j < i → closest (at j) r ≡ None
+  SoFar i (Some b) = Winner i b
 
   -- what holds of the first i indices, and of i, holds of the first i + 1
   up_to : (P : ℕ → Type 0) (i : ℕ) → ((j : ℕ) → j < i → P j) → P i → (j : ℕ) → j < i + 1 → P j
@@ -39,7 +39,7 @@ module _ (r : ℕ) (at : ℕ → ℕ) where
   taken : (i : ℕ) (c : ClosestDivider) → closest (at i) r ≡ Some c
       → ((j : ℕ) → j < i → (d : ClosestDivider) → closest (at j) r ≡ Some d
       → hertz (at j) d.divider < hertz (at i) c.divider)
-      → Winner (i + 1) (hertz (at i) c.divider) (i, c.divider)
+      → Winner (i + 1) (serving i (at i) c)
   taken i c e less =
       record {
         known = omega arith;
@@ -55,51 +55,43 @@ module _ (r : ℕ) (at : ℕ → ℕ) where
       }
 
   -- the source at i has no more whole hertz than the best so far, or does not serve
-  kept : (i h : ℕ) (x : ℕ × ClockDivider) → Winner i h x
-      → ((d : ClosestDivider) → closest (at i) r ≡ Some d → hertz (at i) d.divider ≤ h) → Winner (i + 1) h x
-  kept i h x w here =
+  kept : (i : ℕ) (b : Best) → Winner i b
+      → ((d : ClosestDivider) → closest (at i) r ≡ Some d → hertz (at i) d.divider ≤ b.freq) → Winner (i + 1) b
+  kept i b w here =
       record {
         known = omega (arith, w.known);
         count = w.count;
         serves = w.serves;
         has = w.has;
         most = λ j d lt f.
-            up_to (λ k. (d : ClosestDivider) → closest (at k) r ≡ Some d → hertz (at k) d.divider ≤ h) i
+            up_to (λ k. (d : ClosestDivider) → closest (at k) r ≡ Some d → hertz (at k) d.divider ≤ b.freq) i
             (λ k before d f. w.most k d before f) here j lt d f;
         first = w.first;
       }
 
-  step : (i : ℕ) (o : Option ClosestDivider) (found : Option (ℕ × ClockDivider)) (h : ℕ) → closest (at i) r ≡ o
-      → SoFar i found h
-      → SoFar (i + 1) (considered i (at i) o (record { result = found; freq = h })).result
-      (considered i (at i) o (record { result = found; freq = h })).freq
-  step i None None h e so = up_to (λ j. closest (at j) r ≡ None) i so e
-  step i (Some c) None h e so =
+  step : (i : ℕ) (o : Option ClosestDivider) (best : Option Best) → closest (at i) r ≡ o → SoFar i best
+      → SoFar (i + 1) (considered i (at i) o best)
+  step i None None e so = up_to (λ j. closest (at j) r ≡ None) i so e
+  step i (Some c) None e so =
       taken i c e (λ j lt d f. absurd (let z : ◌≡◌ {A = ℕ} 0 1 = let g = so j lt in cc in omega arith))
-  step i None (Some x) h e so =
-      kept i h x so (λ d f. absurd (let z : ◌≡◌ {A = ℕ} 0 1 = cc in omega arith))
-  step i (Some c) (Some x) h e so =
-      cond_both (ltb h (hertz (at i) c.divider))
-      (record { result = Some (i, c.divider); freq = hertz (at i) c.divider })
-      (record { result = Some x; freq = h })
-      (λ (best : Best). SoFar (i + 1) best.result best.freq)
+  step i None (Some b) e so =
+      kept i b so (λ d f. absurd (let z : ◌≡◌ {A = ℕ} 0 1 = cc in omega arith))
+  step i (Some c) (Some b) e so =
+      cond_both (ltb b.freq (hertz (at i) c.divider)) (serving i (at i) c) b (Winner (i + 1))
       (λ more. taken i c e (λ j lt d f. omega (arith, so.most j d lt f, ltb-true _ _ more)))
-      (λ less. kept i h x so (λ d f. let same : d ≡ c = cc in rw same (ltb-false _ _ less)))
+      (λ less. kept i b so (λ d f. let same : d ≡ c = cc in rw same (ltb-false _ _ less)))
 
-  run : (rest : List ℕ) (i : ℕ) (best : Best) → ((j : ℕ) → j < length rest → get_or rest j 0 ≡ at (i + j))
-      → SoFar i best.result best.freq
-      → SoFar (i + length rest) (best_from r i rest best).result (best_from r i rest best).freq
+  run : (rest : List ℕ) (i : ℕ) (best : Option Best) → ((j : ℕ) → j < length rest → get_or rest j 0 ≡ at (i + j))
+      → SoFar i best → SoFar (i + length rest) (best_from r i rest best)
   unfolding best_from
-  run [] i best e so = subst (λ k. SoFar k best.result best.freq) (sym (add-zero i)) so
+  run [] i best e so = subst (λ k. SoFar k best) (sym (add-zero i)) so
   run (s ∷ rest) i best e so =
       let here : at i ≡ s = ap at (sym (add-zero i)) ∙ sym (e 0 (omega arith)) in
       let next = considered i s (closest s r) best in
-      let so' : SoFar (i + 1) next.result next.freq =
-      subst
-      (λ (z : ℕ). SoFar (i + 1) (considered i z (closest z r) best).result (considered i z (closest z r) best).freq)
-      here (step i (closest (at i) r) best.result best.freq refl so) in
+      let so' : SoFar (i + 1) next =
+      subst (λ (z : ℕ). SoFar (i + 1) (considered i z (closest z r) best)) here (step i (closest (at i) r) best refl so) in
       let moved : (i + 1) + length rest ≡ i + suc (length rest) = omega arith in
-      subst (λ k. SoFar k (best_from r (i + 1) rest next).result (best_from r (i + 1) rest next).freq) moved
+      subst (λ k. SoFar k (best_from r (i + 1) rest next)) moved
       (run rest (i + 1) next
       (λ j lt. e (suc j) (omega arith) ∙ ap at (let m : i + suc j ≡ i + 1 + j = omega arith in m)) so')
 
@@ -118,15 +110,15 @@ module _ (r : ℕ) (ss : List ℕ) (pos : 0 < r) where
   server j e allowed above None law = absurd (omega (arith, law, allowed_serves (source j) r pos e allowed above))
   server j e allowed above (Some c) law = (c, refl, law.1.none_comes_closer e allowed above)
 
-  best_of_all : (h : ℕ) (x : ℕ × ClockDivider) → Winner r source (length ss) h x → BestFromBelow r ss x.0 x.1
+  best_of_all : (b : Best) → Winner r source (length ss) b → BestFromBelow r ss b.index b.divider
   unfolding source
-  best_of_all h x w =
-      let law : ClosestCases (source x.0) r (Some (record { divider = x.1; count = w.count })) =
-      subst (ClosestCases (source x.0) r) w.serves (closest_cases (source x.0) r pos) in
+  best_of_all b w =
+      let law : ClosestCases (source b.index) r (Some (record { divider = b.divider; count = w.count })) =
+      subst (ClosestCases (source b.index) r) w.serves (closest_cases (source b.index) r pos) in
       record {
         known_source = w.known;
         wins = record {
-          serves = (record { divider = x.1; count = w.count }, w.serves, refl);
+          serves = (record { divider = b.divider; count = w.count }, w.serves, refl);
           most_hertz = λ j c lt e. omega (arith, w.most j c lt e, w.has);
           earlier_first = λ j c lt e. omega (arith, w.first j c lt e, w.has);
         };
@@ -144,10 +136,10 @@ module _ (r : ℕ) (ss : List ℕ) (pos : 0 < r) where
   too_fast j None law e = omega (arith, mul-le-mul_right r law, div-mul-le_self (source j) r)
   too_fast j (Some c) law e = absurd (let z : ◌≡◌ {A = ℕ} 0 1 = cc in omega arith)
 
-  by_found : (h : ℕ) (found : Option (ℕ × ClockDivider)) → SoFar r source (length ss) found h
+  by_found : (found : Option Best) → SoFar r source (length ss) found
       → SearchLaw r ss (answered found)
   unfolding source
-  by_found h None so =
+  by_found None so =
       record {
         refuses_zero = (λ e. absurd (let z : ◌≡◌ {A = ℕ} 3 1 = cc in omega arith), λ e. absurd (omega arith));
         refuses_too_low = (
@@ -156,9 +148,9 @@ module _ (r : ℕ) (ss : List ℕ) (pos : 0 < r) where
         );
         best = λ i d e. absurd (let z : ◌≡◌ {A = ℕ} 0 1 = cc in omega arith);
       }
-  by_found h (Some x) w =
-      let law : ClosestCases (source x.0) r (Some (record { divider = x.1; count = w.count })) =
-      subst (ClosestCases (source x.0) r) w.serves (closest_cases (source x.0) r pos) in
+  by_found (Some b) w =
+      let law : ClosestCases (source b.index) r (Some (record { divider = b.divider; count = w.count })) =
+      subst (ClosestCases (source b.index) r) w.serves (closest_cases (source b.index) r pos) in
       record {
         refuses_zero = (λ e. absurd (let z : ◌≡◌ {A = ℕ} 0 1 = cc in omega arith), λ e. absurd (omega arith));
         refuses_too_low = (
@@ -167,15 +159,15 @@ module _ (r : ℕ) (ss : List ℕ) (pos : 0 < r) where
               absurd
               (omega (
                 arith,
-                all.1 x.0 w.known,
-                lt-mul-div-succ (source x.0) pos,
+                all.1 b.index w.known,
+                lt-mul-div-succ (source b.index) pos,
                 mul-le-mul_left r law.0,
               )),
         );
         best = λ i d e.
-            let ei : x.0 ≡ i = cc in
-            let ed : x.1 ≡ d = cc in
-            subst₂ (BestFromBelow r ss) ei ed (best_of_all h x w);
+            let ei : b.index ≡ i = cc in
+            let ed : b.divider ≡ d = cc in
+            subst₂ (BestFromBelow r ss) ei ed (best_of_all b w);
       }
 
 refused_zero : (r : ℕ) (ss : List ℕ) → r ≡ 0 → SearchLaw r ss (refused 1)
@@ -190,29 +182,22 @@ refused_zero r ss z =
 pub search_law : (r : ℕ) (ss : List ℕ) → SearchLaw r ss (searched r ss)
 unfolding source
 search_law r ss =
-    cond_both (eqb r 0) (refused 1) (answered (best_from r 0 ss nothing).result) (SearchLaw r ss)
+    cond_both (eqb r 0) (refused 1) (answered (best_from r 0 ss None)) (SearchLaw r ss)
     (λ z. refused_zero r ss (eqb-true _ _ z))
     (λ some.
     let pos : 0 < r = omega (arith, eqb-false _ _ some) in
     let at : ℕ → ℕ = λ j. get_or ss j 0 in
-    let end = run r at ss 0 nothing (λ j lt. ap at (sym (zero-add j))) (λ j lt. absurd (omega arith)) in
-    by_found r ss pos _ _ (subst (λ k. SoFar r at k (best_from r 0 ss nothing).result (best_from r 0 ss nothing).freq) (zero-add (length ss)) end))
+    let end = run r at ss 0 None (λ j lt. ap at (sym (zero-add j))) (λ j lt. absurd (omega arith)) in
+    by_found r ss pos _ (subst (λ k. SoFar r at k (best_from r 0 ss None)) (zero-add (length ss)) end))
 
--- one turn of the search takes the next source, and what comes of all of them stays
-pub one_turn : (r : ℕ) (ss : List ℕ) (i : ℕ) (o : Option ClosestDivider) (best next all : Best) → i < length ss
-    → o ≡ closest (get_or ss i 0) r → next ≡ considered i (get_or ss i 0) o best → best_from r i (drop i ss) best ≡ all
-    → best_from r (i + 1) (drop (i + 1) ss) next ≡ all
+-- one turn of the search takes the next source
+pub one_turn : (r : ℕ) (ss : List ℕ) (i : ℕ) (best : Option Best) → i < length ss
+    → best_from r i (drop i ss) best
+    ≡ best_from r (i + 1) (drop (i + 1) ss) (considered i (get_or ss i 0) (closest (get_or ss i 0) r) best)
 unfolding best_from
-one_turn r ss i o best next all lt eo en before =
-    let s = get_or ss i 0 in
-    let turn : best_from r i (drop i ss) best
-    ≡ best_from r (i + 1) (drop (i + 1) ss) (considered i s (closest s r) best) =
-    ap (λ (xs : List ℕ). best_from r i xs best) (drop_more ss i 0 lt) in
-    let same : next ≡ considered i s (closest s r) best =
-    en ∙ ap (λ (x : Option ClosestDivider). considered i s x best) eo in
-    ap (best_from r (i + 1) (drop (i + 1) ss)) same ∙ (sym turn ∙ before)
+one_turn r ss i best lt = ap (λ (xs : List ℕ). best_from r i xs best) (drop_more ss i 0 lt)
 
 -- past the last source nothing changes
-pub no_turn : (r : ℕ) (ss : List ℕ) (i : ℕ) (best : Best) → length ss ≤ i → best_from r i (drop i ss) best ≡ best
+pub no_turn : (r : ℕ) (ss : List ℕ) (i : ℕ) (best : Option Best) → length ss ≤ i → best_from r i (drop i ss) best ≡ best
 unfolding best_from
 no_turn r ss i best le = ap (λ (xs : List ℕ). best_from r i xs best) (drop_all i ss le)

@@ -1,5 +1,5 @@
 -- The first term of F63 that is not below a fraction is the least of all small fractions that are not below it.
-use Rattle.std.proofs.Common.{◌≡◌, ℕ, zero, suc, ◌+◌, ◌*◌, ◌<◌, ◌≤◌, Bool, true, false, cond, List, [], ◌∷◌, length, is_some, Some, None, sym, refl, ⊎_elim, add-zero, mul-le-mul_left, arith}
+use Rattle.std.proofs.Common.{◌≡◌, ℕ, zero, suc, ◌+◌, ◌*◌, ◌%◌, ◌<◌, ◌≤◌, Bool, true, false, cond, List, [], ◌∷◌, length, is_some, Some, None, sym, refl, ⊎_elim, add-zero, mul-le-mul_left, mod-lt, arith}
 use Rattle.std.proofs.lemmas.Bool.{leb-true, leb-false, cases_lt, le-leb, lt-leb, cond_both}
 use Rattle.clock.specs.Farey.{f63}
 use Rattle.clock.specs.Closest.{first_not_below, not_below, least_term}
@@ -130,6 +130,14 @@ least_term_found x y u e = found f63 1 x y u f63_linked e
 
 pub least_term_least : (x y : ℕ) (u : Term) → 0 < x → least_term x y ≡ Some u → Least u x y
 least_term_least x y u pos e = least f63 1 x y u f63_linked f63_from_zero pos e
+
+-- the terms are of small numbers
+pub least_term_small : (x y : ℕ) (u : Term) → least_term x y ≡ Some u → (u.fraction.numerator ≤ 63) × (u.fraction.denominator ≤ 63)
+least_term_small x y u e = let f = least_term_found x y u e in (omega (arith, f.ranges.small, f.ranges.proper), f.ranges.small)
+
+-- there is one for a remainder
+pub least_term_of_remainder : (s r : ℕ) → 0 < r → is_some (least_term (s % r) r) ≡ true
+least_term_of_remainder s r pos = some_term f63 1 (s % r) r f63_linked (omega (arith, mod-lt s pos))
 
 pub least_term_some : (x y : ℕ) → x ≤ y → is_some (least_term x y) ≡ true
 least_term_some x y le = some_term f63 1 x y f63_linked le

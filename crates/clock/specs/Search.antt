@@ -1,5 +1,5 @@
 -- What the rules give for a list of sources: the serving source with most whole hertz, the earlier one on a tie.
-use Rattle.std.specs.Prelude.{ℕ, ◌+◌, cond, not, ◌||◌, List, [], ◌∷◌, is_some, Some, None, Ok, Err, Option, Result, ◌==◌, nat_lt, slice_index}
+use Rattle.std.specs.Prelude.{ℕ, ◌+◌, cond, List, [], ◌∷◌, Some, None, Ok, Err, Option, Result, ◌==◌, nat_lt, slice_index}
 use Rattle.clock.specs.Closest.{closest}
 use Rattle.clock.specs.Divider.{hertz}
 use Rattle.clock.specs.declared.divider.ClockDivider.{ClockDivider}
@@ -21,31 +21,28 @@ abbrev pub answer_of : Result (ℕ × ClockDivider) ClockError → Answer
 answer_of (Ok x) = setting x.0 x.1
 answer_of (Err e) = refused (number e)
 
--- no source was gone through yet
-abbrev pub nothing : Best
-nothing = record { result = None; freq = 0 }
+-- the source s at the index i, with the divider that the rules give for it
+abbrev pub serving : ℕ → ℕ → ClosestDivider → Best
+serving i s c = record { index = i; divider = c.divider; freq = hertz s c.divider }
 
 -- the best so far and the source s at the index i, with what the rules give for it: the one with more whole hertz,
 -- the earlier one on a tie
-abbrev pub considered : ℕ → ℕ → Option ClosestDivider → Best → Best
+abbrev pub considered : ℕ → ℕ → Option ClosestDivider → Option Best → Option Best
 considered i s None best = best
-considered i s (Some c) best =
-    cond
-    (not (is_some best.result) || nat_lt best.freq (hertz s c.divider))
-    (record { result = Some (i, c.divider); freq = hertz s c.divider })
-    best
+considered i s (Some c) None = Some (serving i s c)
+considered i s (Some c) (Some best) = Some (cond (nat_lt best.freq (hertz s c.divider)) (serving i s c) best)
 
 -- the sources in order, the first of them with the index i
-unfoldable pub best_from : ℕ → ℕ → List ℕ → Best → Best
+unfoldable pub best_from : ℕ → ℕ → List ℕ → Option Best → Option Best
 best_from r i [] best = best
 best_from r i (s ∷ ss) best = best_from r (i + 1) ss (considered i s (closest s r) best)
 
-abbrev pub answered : Option (ℕ × ClockDivider) → Answer
+abbrev pub answered : Option Best → Answer
 answered None = refused 3
-answered (Some x) = setting x.0 x.1
+answered (Some best) = setting best.index best.divider
 
 abbrev pub searched : ℕ → List ℕ → Answer
-searched r ss = cond (r == 0) (refused 1) (answered (best_from r 0 ss nothing).result)
+searched r ss = cond (r == 0) (refused 1) (answered (best_from r 0 ss None))
 
 -- the count of an answer: that of the winning source, and 0 for a refusal
 abbrev pub counted : Option ClosestDivider → ℕ

@@ -3,15 +3,10 @@ ghost use Rattle.std.specs.Prelude.{◌≡◌, true, length};
 ghost use Rattle.clock.specs.Cases.{worked_cases, all_hold};
 
 /// How many worked cases there are. Each of them holds: the rules give its setting or refusal, and its whole hertz.
+#[tactic(auto, using(crate::proofs::Computed::cases_hold))]
 pub fn worked_cases() -> u32
     ensures all { all_hold worked_cases ≡ true }
     ensures count { result ≡ length worked_cases }
 {
-    cases_hold();
     11
 }
-
-// Each case, computed.
-fn cases_hold()
-    ensures { all_hold worked_cases ≡ true }
-{}

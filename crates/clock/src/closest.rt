@@ -1,8 +1,7 @@
 // The divider of one source that comes closest to a frequency from below.
-ghost use Rattle.std.specs.Prelude.{◌≡◌, ◌%◌, ◌<◌, ◌≤◌, true, is_some, Some};
-ghost use Rattle.clock.specs.Closest.{closest, least_term};
+ghost use Rattle.std.specs.Prelude.{◌≡◌, ◌<◌, ◌↔◌};
+ghost use Rattle.clock.specs.Closest.{closest, least_term, without_fraction};
 ghost use Rattle.clock.specs.Laws.{ClosestFromBelow};
-ghost use Rattle.clock.specs.declared.closest.Term.{Term as FareyTerm};
 
 use crate::divider::ClockDivider;
 use crate::farey::walk::farey_sequence;
@@ -25,6 +24,7 @@ pub struct Term {
 
 /// The divider of one source whose output comes closest to a frequency from below; `None` where the source is too
 /// fast for it.
+#[tactic(auto, using(crate::proofs::Terms::least_term_of_remainder, crate::proofs::Terms::least_term_small, crate::proofs::OneSource::closest_from_below_lem))]
 pub fn calculate_closest_divider(
     source_frequency: u32,
     desired_frequency: u32,
@@ -32,21 +32,13 @@ pub fn calculate_closest_divider(
     ensures answer { result ≡ closest source_frequency desired_frequency }
     ensures law { 0 < desired_frequency → ClosestFromBelow source_frequency desired_frequency (closest source_frequency desired_frequency) }
 {
-    closest_from_below(source_frequency, desired_frequency);
     if desired_frequency == 0 {
         return None;
     }
     let quotient = source_frequency / desired_frequency;
     if quotient < 2 {
         // The source is not fast enough to be divided down to the frequency: its greatest output.
-        return Some(ClosestDivider {
-            divider: ClockDivider {
-                div_num: 1,
-                div_b: 0,
-                div_a: 0,
-            },
-            count: 0,
-        });
+        return Some(without_fraction(1));
     }
     if quotient > 256 {
         return None;
@@ -54,14 +46,7 @@ pub fn calculate_closest_divider(
     let div_num = if quotient == 256 { 0 } else { quotient as u8 };
     let target = lowest_terms(source_frequency % desired_frequency, desired_frequency);
     if target.numerator == 0 {
-        return Some(ClosestDivider {
-            divider: ClockDivider {
-                div_num,
-                div_b: 0,
-                div_a: 0,
-            },
-            count: 0,
-        });
+        return Some(without_fraction(div_num));
     }
     let term = find_not_below(&target).unwrap();
     let div_b = term.fraction.numerator as u8;
@@ -76,11 +61,25 @@ pub fn calculate_closest_divider(
     })
 }
 
+// A whole part with no fraction.
+fn without_fraction(div_num: u8) -> ClosestDivider
+    ensures { Some result ≡ without_fraction div_num }
+{
+    ClosestDivider {
+        divider: ClockDivider {
+            div_num,
+            div_b: 0,
+            div_a: 0,
+        },
+        count: 0,
+    }
+}
+
 // A fraction in lowest terms: the same terms of the Farey sequence are not below it.
 fn lowest_terms(numerator: u32, denominator: u32) -> Fraction
     requires { 0 < denominator }
     ensures same { least_term result.numerator result.denominator ≡ least_term numerator denominator }
-    ensures some { (result.numerator ≡ 0 → numerator ≡ 0) × (numerator ≡ 0 → result.numerator ≡ 0) }
+    ensures zero { (result.numerator ≡ 0) ↔ (numerator ≡ 0) }
 {
     let gcd = hcf(numerator, denominator);
     Fraction {
@@ -93,23 +92,15 @@ fn lowest_terms(numerator: u32, denominator: u32) -> Fraction
 fn find_not_below(target: &Fraction) -> Option<Term>
     ensures { result ≡ least_term target.now.numerator target.now.denominator }
 {
-    let mut sequence = farey_sequence();
-    while let Some(curr) = sequence.next() {
+    for (i, curr) in farey_sequence().enumerate() {
         let new_curr_num = curr.numerator as u64 * target.denominator as u64;
         let new_target_num = target.numerator as u64 * curr.denominator as u64;
         if new_curr_num >= new_target_num {
             return Some(Term {
                 fraction: curr,
-                place: sequence.place,
+                place: i as u32 + 1,
             });
         }
     }
     None
 }
-
-// What the rules give for one source comes closest from below; for a remainder there is a term, of small numbers.
-fn closest_from_below(source: u32, frequency: u32)
-    ensures some { 0 < frequency → is_some (least_term (source % frequency) frequency) ≡ true }
-    ensures small { (t : FareyTerm) → least_term (source % frequency) frequency ≡ Some t → (t.fraction.numerator ≤ 63) × (t.fraction.denominator ≤ 63) }
-    ensures law { 0 < frequency → ClosestFromBelow source frequency (closest source frequency) }
-{}

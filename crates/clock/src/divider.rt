@@ -31,7 +31,8 @@ pub fn calculate_output_frequency(source_frequency: u32, divider: &ClockDivider)
 
 // SOURCE / (N + B/A) = (SOURCE * A) / (N * A + B), whose products want 64 bits.
 fn divided_by_fraction(source: u32, n: u32, b: u8, a: u8) -> u32
-    requires { (0 < n) × (0 < a) }
+    requires whole { 0 < n }
+    requires denominator { 0 < a }
     ensures { result ≡ source * a / (n * a + b) }
 {
     ((source as u64 * a as u64) / (n as u64 * a as u64 + b as u64)) as u32

@@ -13,12 +13,12 @@ use crate::search::calculate_clkm;
 ///
 /// Bits 0 to 7 have `div_num`, 8 to 13 `div_b`, 14 to 19 `div_a`, 20 and 21 the source's index plus 1.
 /// A refusal is 2,147,483,648 plus its number.
+#[tactic(auto, using(crate::proofs::Bits::three_fit))]
 pub fn lcd_cam_calculate_clkm(frequency: u32, xtal: u32, pll_d2: u32, crypto: u32) -> u32
     ensures packed { result ≡ packed (searched frequency (lcd_cam_sources xtal pll_d2 crypto)) }
     ensures unpacked { unpacked result ≡ searched frequency (lcd_cam_sources xtal pll_d2 crypto) }
     ensures law { SearchLaw frequency (lcd_cam_sources xtal pll_d2 crypto) (unpacked result) }
 {
-    packed_reads_back(frequency, xtal, pll_d2, crypto);
     match calculate_clkm(frequency, &[xtal, pll_d2, crypto]) {
         Ok((index, divider)) => pack(index, &divider),
         Err(error) => 0x8000_0000 + error.number(),
@@ -26,9 +26,12 @@ pub fn lcd_cam_calculate_clkm(frequency: u32, xtal: u32, pll_d2: u32, crypto: u3
 }
 
 // A setting of one of three sources, whose divider fits the register fields.
+#[tactic(auto, using(crate::proofs::Bits::setting_reads))]
 fn pack(index: usize, divider: &ClockDivider) -> u32
-    requires { (index < 3) × (FitsFields divider.now) }
-    ensures { result ≡ packed (setting index divider.now) }
+    requires known { index < 3 }
+    requires fits { FitsFields divider.now }
+    ensures packed { result ≡ packed (setting index divider.now) }
+    ensures reads { unpacked result ≡ setting index divider.now }
 {
     let source = index as u32 + 1;
     divider.div_num as u32
@@ -36,9 +39,3 @@ fn pack(index: usize, divider: &ClockDivider) -> u32
         + ((divider.div_a as u32) << 14)
         + (source << 20)
 }
-
-// A packed answer over three sources reads back, since a setting fits its bits.
-fn packed_reads_back(frequency: u32, xtal: u32, pll_d2: u32, crypto: u32)
-    ensures reads { unpacked (packed (searched frequency (lcd_cam_sources xtal pll_d2 crypto))) ≡ searched frequency (lcd_cam_sources xtal pll_d2 crypto) }
-    ensures fits { (i : ℕ) (d : Divider) → setting i d ≡ searched frequency (lcd_cam_sources xtal pll_d2 crypto) → (i < 3) × FitsFields d }
-{}

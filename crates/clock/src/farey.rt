@@ -1,9 +1,8 @@
-// The step record of a walk through the Farey sequence of order 63: the fractions from 0 to 1 with denominators up to
-// 63, in order.
-ghost use Rattle.std.specs.Prelude.{◌≡◌, ◌-◌, ◌≤◌, true};
-ghost use Rattle.clock.specs.Walk.{sound};
+// A walk through the Farey sequence of order 63: the fractions from 0 to 1 with denominators up to 63, in order.
+ghost use Rattle.std.specs.Prelude.{◌≡◌, ◌+◌, ◌-◌, ◌≤◌, true, [], is_some, if◌then◌else◌, MatchBool};
+ghost use Rattle.clock.specs.Walk.{sound, GoesOn};
 
-use crate::fraction::Neighbours;
+use crate::fraction::{Fraction, Neighbours};
 
 pub mod walk;
 
@@ -16,4 +15,49 @@ pub struct FareySequence {
     pub place: u32,
     ghost within: { place ≤ 1229 },
     ghost on_the_walk: { sound (1229 - place) terms ≡ true },
+}
+
+impl Iterator for FareySequence {
+    ghost use Rattle.std.specs.Iterator.{YieldsFirst, item_count};
+    ghost use Rattle.clock.specs.Sequence.{ahead};
+
+    type Item = Fraction;
+
+    ghost next_gives = { YieldsFirst ahead };
+
+    ghost remaining = { item_count ahead };
+
+    /// The next term, or `None` after 1/1.
+    fn next(&mut self) -> Option<Fraction>
+        ensures term { YieldsFirst ahead self.old result self.new }
+        ensures counts { self.new.place ≡ (if is_some result then self.old.place + 1 else self.old.place) }
+    {
+        if self.ended() {
+            return None;
+        }
+        let Neighbours { a, b, c, d } = self.terms;
+        let k = (63 + b) / d;
+        self.terms = Neighbours {
+            a: c,
+            b: d,
+            c: k * c - a,
+            d: k * d - b,
+        };
+        self.place += 1;
+        Some(Fraction {
+            numerator: a,
+            denominator: b,
+        })
+    }
+}
+
+impl FareySequence {
+    ghost use Rattle.clock.specs.Sequence.{ahead};
+
+    // Past 1/1 the numerator is above 63.
+    fn ended(&self) -> bool
+        ensures { MatchBool result (ahead self.now ≡ []) (GoesOn self.now.place self.now.terms) }
+    {
+        self.terms.a > 63
+    }
 }

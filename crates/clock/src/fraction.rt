@@ -1,5 +1,5 @@
 // Fractions, and the highest common factor that brings them to lowest terms.
-ghost use Rattle.std.specs.Prelude.{◌≡◌, ℕ, ◌+◌, ◌%◌};
+ghost use Rattle.std.specs.Prelude.{◌≡◌, ◌+◌};
 ghost use Rattle.clock.specs.Divisors.{GreatestCommonDivisor};
 
 /// A fraction of two whole numbers.
@@ -19,16 +19,10 @@ pub struct Neighbours {
 }
 
 /// The highest common factor of two numbers, by Euclid's algorithm; 0 for 0 and 0.
+#[tactic(auto, using(crate::proofs::Euclid::euclid_step, crate::proofs::Euclid::euclid_end))]
 pub fn hcf(a: u32, b: u32) -> u32
     ensures greatest { GreatestCommonDivisor a b result }
     ensures none { a + b ≡ 0 → result ≡ 0 }
 {
-    euclid(a, b);
     if b != 0 { hcf(b, a % b) } else { a }
 }
-
-// Euclid's step: the divisors that a and b share are those that b and a mod b share.
-fn euclid(a: u32, b: u32)
-    ensures step { (g : ℕ) → GreatestCommonDivisor b (a % b) g → GreatestCommonDivisor a b g }
-    ensures end { GreatestCommonDivisor a 0 a }
-{}

@@ -1,7 +1,7 @@
 // The search for the clock divider of the LCD_CAM module, after esp-hal's lcd_cam/mod.rs.
 //
-// Some private functions here have an empty body, as `euclid` in fraction.rt: the contract of such a function is a law
-// about the definitions in specs/, and its caller learns the law by the call, which costs no instruction.
+// A law about the definitions in specs/ is a lemma of proofs/, and the function whose contract cites it names the lemma
+// in its attribute.
 #![tactic(auto)]
 
 pub mod cases;

@@ -1,8 +1,7 @@
 // The search through the sources for the setting that comes closest to a frequency from below.
-ghost use Rattle.std.specs.Prelude.{◌≡◌, ℕ, ◌≤◌, length, drop};
+ghost use Rattle.std.specs.Prelude.{◌≡◌};
 ghost use Rattle.clock.specs.Laws.{SearchLaw};
-ghost use Rattle.clock.specs.Search.{searched, best_from, considered, answer_of, number};
-ghost use Rattle.clock.specs.declared.search.Best.{Best as BestSoFar};
+ghost use Rattle.clock.specs.Search.{searched, considered, answer_of, number};
 
 use crate::closest::{ClosestDivider, calculate_closest_divider};
 use crate::divider::{ClockDivider, calculate_output_frequency};
@@ -11,9 +10,9 @@ use crate::divider::{ClockDivider, calculate_output_frequency};
 #[derive(Clone, Copy, PartialEq, Eq, Debug)]
 pub enum ClockError {
     /// The desired frequency is 0.
-    FrequencyZero,
+    FrequencyZero = 1,
     /// The desired frequency is too low for the dividers to divide any source to.
-    FrequencyTooLow,
+    FrequencyTooLow = 3,
 }
 
 impl ClockError {
@@ -21,14 +20,12 @@ impl ClockError {
     pub fn number(self) -> u32
         ensures { result ≡ number self }
     {
-        match self {
-            ClockError::FrequencyZero => 1,
-            ClockError::FrequencyTooLow => 3,
-        }
+        self as u32
     }
 }
 
 /// The source and the divider whose output comes closest to a frequency from below.
+#[tactic(auto, using(crate::proofs::Sources::one_turn, crate::proofs::Sources::no_turn))]
 pub fn calculate_clkm(
     desired_frequency: u32,
     source_frequencies: &[u32],
@@ -40,16 +37,13 @@ pub fn calculate_clkm(
     if desired_frequency == 0 {
         return Err(ClockError::FrequencyZero);
     }
-    let mut best = Best {
-        result: None,
-        freq: 0,
-    };
+    let mut best = None;
     for (i, &source_frequency) in source_frequencies.iter().enumerate() {
         let closest = calculate_closest_divider(source_frequency, desired_frequency);
-        best = best.or(i, source_frequency, closest);
+        best = better(best, i, source_frequency, closest);
     }
-    match best.result {
-        Some(result) => Ok(result),
+    match best {
+        Some(best) => Ok((best.index, best.divider)),
         None => Err(ClockError::FrequencyTooLow),
     }
 }
@@ -57,32 +51,37 @@ pub fn calculate_clkm(
 // The best setting so far, and its whole hertz.
 #[derive(Clone, Copy)]
 struct Best {
-    result: Option<(usize, ClockDivider)>,
+    index: usize,
+    divider: ClockDivider,
     freq: u32,
 }
 
-impl Best {
-    // The source at the index i where it serves with more whole hertz, else what was best so far.
-    fn or(self, i: usize, source_frequency: u32, closest: Option<ClosestDivider>) -> Best
-        ensures { result ≡ considered i source_frequency closest self }
-    {
-        let Some(found) = closest else {
-            return self;
-        };
-        let freq = calculate_output_frequency(source_frequency, &found.divider);
-        if self.result.is_none() || freq > self.freq {
-            Best {
-                result: Some((i, found.divider)),
-                freq,
-            }
-        } else {
-            self
-        }
+// The source at the index i where it serves with more whole hertz, else what was best so far.
+fn better(
+    best: Option<Best>,
+    i: usize,
+    source_frequency: u32,
+    closest: Option<ClosestDivider>,
+) -> Option<Best>
+    ensures { result ≡ considered i source_frequency closest best }
+{
+    let Some(found) = closest else {
+        return best;
+    };
+    let freq = calculate_output_frequency(source_frequency, &found.divider);
+    if best.is_none_or(|best| freq > best.freq) {
+        Some(Best {
+            index: i,
+            divider: found.divider,
+            freq,
+        })
+    } else {
+        best
     }
 }
 
-// What the rules give for a list of sources is the best from below, and past the last source nothing changes.
+// What the rules give for a list of sources is the best from below. The body is empty: as a lemma that `using` names,
+// the law is not found where the code returns.
 fn best_from_below(frequency: u32, sources: &[u32])
-    ensures law { SearchLaw frequency sources.now (searched frequency sources.now) }
-    ensures end { (i : ℕ) (best : BestSoFar) → length sources.now ≤ i → best_from frequency i (drop i sources.now) best ≡ best }
+    ensures { SearchLaw frequency sources.now (searched frequency sources.now) }
 {}

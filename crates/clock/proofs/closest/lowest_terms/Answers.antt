@@ -15,5 +15,5 @@ returns c =
     let h = c.hcf-gcd.ensures.greatest in
     record {
       same = same_terms n d g c.requires h;
-      some = (zero_from n d g c.requires h, zero_to n d g c.requires h);
+      zero = (zero_from n d g c.requires h, zero_to n d g c.requires h);
     }

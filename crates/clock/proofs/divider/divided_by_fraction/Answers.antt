@@ -9,9 +9,9 @@ overflow_cast-result-6 c =
     let n = c.args.n in
     let a = c.args.a in
     let p = n * a + c.args.b in
-    let whole : a ≤ n * a = omega (arith, mul-le-mul_left a c.requires.0) in
+    let whole : a ≤ n * a = omega (arith, mul-le-mul_left a c.requires.whole) in
     let bound : s * a / p ≤ s = div-le_of_le-mul p (omega (arith, mul-le-mul_left s whole)) in
     omega (arith, bound, c.ranges.source)
 
 pub nonzero_div-result : goal.nonzero_div-result
-nonzero_div-result c = omega (arith, mul-pos c.requires.0 c.requires.1)
+nonzero_div-result c = omega (arith, mul-pos c.requires.whole c.requires.denominator)
