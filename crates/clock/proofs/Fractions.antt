@@ -9,7 +9,7 @@ use Rattle.clock.specs.Laws.{place, SmallFraction, AllSmallFractions}
 use Rattle.clock.specs.declared.fraction.Fraction.{Fraction}
 use Rattle.clock.specs.declared.closest.Term.{Term}
 use Rattle.clock.proofs.Linked.{Linked, Ranges, f63_linked}
-use Rattle.clock.proofs.Outputs.{cancel}
+use Rattle.std.proofs.Math.Nat.{le_of_mul-le-mul_right}
 use Rattle.clock.proofs.Terms.{least_term_found, least_term_least, least_term_some}
 
 -- w d - n z = 1 for some w and z, so n/d is in lowest terms
@@ -72,8 +72,8 @@ module _ (t u : Fraction) (ht : SmallFraction t) (hu : Ranges u) (r : Reduced u)
   of_numerator =
       let whole : u.numerator * t.denominator ≡ u.numerator * (u.denominator * times) =
       ap (λ (x : ℕ). u.numerator * x) (sym of_denominator) in
-      let low : u.numerator * times ≤ t.numerator = cancel _ _ u.denominator hu.positive (omega arith) in
-      let high : t.numerator ≤ u.numerator * times = cancel _ _ u.denominator hu.positive (omega arith) in
+      let low : u.numerator * times ≤ t.numerator = le_of_mul-le-mul_right {k = u.denominator} (omega arith) hu.positive in
+      let high : t.numerator ≤ u.numerator * times = le_of_mul-le-mul_right {k = u.denominator} (omega arith) hu.positive in
       omega arith
 
   once : times ≡ 1

@@ -9,7 +9,8 @@ use Rattle.clock.specs.Laws.{FitsFields, FromBelow, CountsItsPlace, ClosestFromB
 use Rattle.clock.specs.declared.divider.ClockDivider.{ClockDivider}
 use Rattle.clock.specs.declared.closest.ClosestDivider.{ClosestDivider}
 use Rattle.clock.specs.declared.closest.Term.{Term}
-use Rattle.clock.proofs.Outputs.{cancel, hertz_falls}
+use Rattle.std.proofs.Math.Nat.{le_of_mul-le-mul_right}
+use Rattle.clock.proofs.Outputs.{hertz_falls}
 use Rattle.clock.proofs.Terms.{least_term_found, least_term_least, least_term_some}
 
 -- what holds of one source, by cases
@@ -43,7 +44,7 @@ allowed_serves s r pos e allowed above =
     let top : divisor e ≤ 256 * d + numerator e = omega (arith, mul-le-mul_right d allowed.at_most_256) in
     let bound : (q * d) * r ≤ (256 * d + numerator e) * r =
     omega (arith, mul-le-mul_right d low, mul-le-mul_right r top) in
-    let less : q * d ≤ 256 * d + numerator e = cancel _ _ r pos bound in
+    let less : q * d ≤ 256 * d + numerator e = le_of_mul-le-mul_right bound pos in
     ⊎_elim (λ (over : 256 < q). absurd (omega (arith, mul-le-mul_right d over, allowed.below_1))) (λ done. done) (cases_lt 256 q)
 
 -- divided by 2, where the source is below twice the frequency
@@ -87,7 +88,7 @@ module _ (s r : ℕ) (pos : 0 < r) (many : 2 ≤ s / r) (few : s / r ≤ 256) wh
       let whole : s ≡ s / r * r = omega (arith, div-add-mod' s r) in
       let bound : (s / r * denominator e) * r ≤ divisor e * r =
       omega (arith, ap (λ (x : ℕ). x * denominator e) whole) in
-      omega (arith, cancel (s / r * denominator e) (divisor e) r pos bound))
+      omega (arith, le_of_mul-le-mul_right {m = s / r * denominator e} {n = divisor e} bound pos))
 
   -- with a fraction b/a that is not below the remainder, and the least such
   module _ (b a : ℕ) (pa : 0 < a) (proper : b ≤ a) (reached : s % r * a ≤ b * r)
@@ -174,13 +175,13 @@ by_cases : (s r : ℕ) (o : Option ClosestDivider) → ClosestCases s r o → Cl
 by_cases s r None law =
     record {
       too_fast = (λ _. law, λ _. refl);
-      from_below = λ c e. absurd (let z : ◌≡◌ {A = ℕ} 0 1 = cc in omega arith);
-      fits_the_fields = λ c e. absurd (let z : ◌≡◌ {A = ℕ} 0 1 = cc in omega arith);
-      counts_its_place = λ c e. absurd (let z : ◌≡◌ {A = ℕ} 0 1 = cc in omega arith);
+      from_below = λ c e. cc;
+      fits_the_fields = λ c e. cc;
+      counts_its_place = λ c e. cc;
     }
 by_cases s r (Some c) law =
     record {
-      too_fast = (λ e. absurd (let z : ◌≡◌ {A = ℕ} 0 1 = cc in omega arith), λ over. absurd (omega (arith, law.0)));
+      too_fast = (λ e. cc, λ over. absurd (omega (arith, law.0)));
       from_below = λ d e. let same : c ≡ d = cc in rw (← same) law.1;
       fits_the_fields = λ d e. let same : c ≡ d = cc in rw (← same) law.2;
       counts_its_place = λ d e. let same : c ≡ d = cc in subst CountsItsPlace same law.3;

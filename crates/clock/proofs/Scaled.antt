@@ -3,7 +3,7 @@ use Rattle.std.proofs.Common.{◌≡◌, ℕ, ◌+◌, ◌*◌, ◌/◌, ◌<◌
 use native.Mathlib.Nat.{mul-div_cancel', pos_of_dvd_of_pos, div-eq_of_lt}
 use Rattle.std.proofs.lemmas.Bool.{leb-true, leb-false, le-leb, lt-leb}
 use Rattle.clock.specs.Closest.{first_not_below, least_term, not_below}
-use Rattle.clock.specs.Divisors.{GreatestCommonDivisor}
+use Rattle.std.specs.Int.{IsGcd}
 use Rattle.clock.specs.Farey.{f63}
 use Rattle.clock.specs.declared.fraction.Fraction.{Fraction}
 
@@ -21,15 +21,15 @@ scaled g x y pos (t ∷ ts) k =
     rw (test, scaled g x y pos ts (k + 1)) refl
 
 -- n/d and its common factor g
-module _ (n d g : ℕ) (pos : 0 < d) (h : GreatestCommonDivisor n d g) where
+module _ (n d g : ℕ) (pos : 0 < d) (h : IsGcd n d g) where
   pub factor_positive : 0 < g
-  factor_positive = pos_of_dvd_of_pos h.divides_second pos
+  factor_positive = pos_of_dvd_of_pos h.1 pos
 
   whole_n : g * (n / g) ≡ n
-  whole_n = mul-div_cancel' g h.divides_first
+  whole_n = mul-div_cancel' g h.0
 
   whole_d : g * (d / g) ≡ d
-  whole_d = mul-div_cancel' g h.divides_second
+  whole_d = mul-div_cancel' g h.1
 
   pub same_terms : least_term (n / g) (d / g) ≡ least_term n d
   same_terms =

@@ -1,8 +1,8 @@
 -- Going through the sources keeps the best so far, so that the best of all is left at the end.
-use Rattle.std.proofs.Common.{◌≡◌, ℕ, suc, ◌+◌, ◌*◌, ◌<◌, ◌≤◌, eqb, ltb, List, [], ◌∷◌, length, get_or, drop, Some, None, Option, sym, refl, ap, ◌∙◌, subst, subst₂, ⊎_elim, le_refl, add-zero, le_of_lt, mul-le-mul_right, mul-le-mul_left, zero-add, div-mul-le_self, arith}
+use Rattle.std.proofs.Common.{◌≡◌, ℕ, suc, ◌+◌, ◌*◌, ◌<◌, ◌≤◌, eqb, ltb, List, [], ◌∷◌, length, get_or, drop, Some, None, Option, sym, refl, ap, ◌∙◌, subst, subst₂, le_refl, add-zero, le_of_lt, mul-le-mul_right, mul-le-mul_left, zero-add, div-mul-le_self, arith, below_more}
 use native.Mathlib.Nat.{lt-mul-div-succ}
 use Rattle.std.proofs.lemmas.List.{drop_more, drop_all}
-use Rattle.std.proofs.lemmas.Bool.{cases_lt, cond_both, ltb-true, ltb-false, eqb-true, eqb-false}
+use Rattle.std.proofs.lemmas.Bool.{cond_both, ltb-true, ltb-false, eqb-true, eqb-false}
 use Rattle.clock.specs.Divider.{hertz, NotAbove, Allowed}
 use Rattle.clock.specs.Closest.{closest}
 use Rattle.clock.specs.Search.{serving, considered, best_from, answered, searched}
@@ -28,13 +28,6 @@ module _ (r : ℕ) (at : ℕ → ℕ) where
   SoFar i None = (j : ℕ) → j < i → closest (at j) r ≡ None
   SoFar i (Some b) = Winner i b
 
-  -- what holds of the first i indices, and of i, holds of the first i + 1
-  up_to : (P : ℕ → Type 0) (i : ℕ) → ((j : ℕ) → j < i → P j) → P i → (j : ℕ) → j < i + 1 → P j
-  up_to P i before here j lt =
-      ⊎_elim (before j)
-      (λ (after : i ≤ j). let same : i ≡ j = omega arith in subst P same here)
-      (cases_lt j i)
-
   -- the source at i has more whole hertz than each before it
   taken : (i : ℕ) (c : ClosestDivider) → closest (at i) r ≡ Some c
       → ((j : ℕ) → j < i → (d : ClosestDivider) → closest (at j) r ≡ Some d
@@ -47,7 +40,7 @@ module _ (r : ℕ) (at : ℕ → ℕ) where
         serves = e;
         has = refl;
         most = λ j d lt f.
-            up_to
+            below_more
             (λ k. (d : ClosestDivider) → closest (at k) r ≡ Some d → hertz (at k) d.divider ≤ hertz (at i) c.divider)
             i (λ k before d f. le_of_lt (less k before d f))
             (λ d f. let same : d ≡ c = cc in rw same (le_refl _)) j lt d f;
@@ -64,18 +57,18 @@ module _ (r : ℕ) (at : ℕ → ℕ) where
         serves = w.serves;
         has = w.has;
         most = λ j d lt f.
-            up_to (λ k. (d : ClosestDivider) → closest (at k) r ≡ Some d → hertz (at k) d.divider ≤ b.freq) i
+            below_more (λ k. (d : ClosestDivider) → closest (at k) r ≡ Some d → hertz (at k) d.divider ≤ b.freq) i
             (λ k before d f. w.most k d before f) here j lt d f;
         first = w.first;
       }
 
   step : (i : ℕ) (o : Option ClosestDivider) (best : Option Best) → closest (at i) r ≡ o → SoFar i best
       → SoFar (i + 1) (considered i (at i) o best)
-  step i None None e so = up_to (λ j. closest (at j) r ≡ None) i so e
+  step i None None e so = below_more (λ j. closest (at j) r ≡ None) i so e
   step i (Some c) None e so =
-      taken i c e (λ j lt d f. absurd (let z : ◌≡◌ {A = ℕ} 0 1 = let g = so j lt in cc in omega arith))
+      taken i c e (λ j lt d f. let g = so j lt in cc)
   step i None (Some b) e so =
-      kept i b so (λ d f. absurd (let z : ◌≡◌ {A = ℕ} 0 1 = cc in omega arith))
+      kept i b so (λ d f. cc)
   step i (Some c) (Some b) e so =
       cond_both (ltb b.freq (hertz (at i) c.divider)) (serving i (at i) c) b (Winner (i + 1))
       (λ more. taken i c e (λ j lt d f. omega (arith, so.most j d lt f, ltb-true _ _ more)))
@@ -134,27 +127,27 @@ module _ (r : ℕ) (ss : List ℕ) (pos : 0 < r) where
 
   too_fast : (j : ℕ) → (o : Option ClosestDivider) → ClosestCases (source j) r o → o ≡ None → 257 * r ≤ source j
   too_fast j None law e = omega (arith, mul-le-mul_right r law, div-mul-le_self (source j) r)
-  too_fast j (Some c) law e = absurd (let z : ◌≡◌ {A = ℕ} 0 1 = cc in omega arith)
+  too_fast j (Some c) law e = cc
 
   by_found : (found : Option Best) → SoFar r source (length ss) found
       → SearchLaw r ss (answered found)
   unfolding source
   by_found None so =
       record {
-        refuses_zero = (λ e. absurd (let z : ◌≡◌ {A = ℕ} 3 1 = cc in omega arith), λ e. absurd (omega arith));
+        refuses_zero = (λ e. cc, λ e. absurd (omega arith));
         refuses_too_low = (
           λ _. (pos, λ j lt. too_fast j (closest (source j) r) (closest_cases (source j) r pos) (so j lt)),
           λ _. refl,
         );
-        best = λ i d e. absurd (let z : ◌≡◌ {A = ℕ} 0 1 = cc in omega arith);
+        best = λ i d e. cc;
       }
   by_found (Some b) w =
       let law : ClosestCases (source b.index) r (Some (record { divider = b.divider; count = w.count })) =
       subst (ClosestCases (source b.index) r) w.serves (closest_cases (source b.index) r pos) in
       record {
-        refuses_zero = (λ e. absurd (let z : ◌≡◌ {A = ℕ} 0 1 = cc in omega arith), λ e. absurd (omega arith));
+        refuses_zero = (λ e. cc, λ e. absurd (omega arith));
         refuses_too_low = (
-          λ e. absurd (let z : ◌≡◌ {A = ℕ} 0 1 = cc in omega arith),
+          λ e. cc,
           λ all.
               absurd
               (omega (
@@ -175,8 +168,8 @@ refused_zero r ss z =
     record {
       refuses_zero = (λ _. z, λ _. refl);
       refuses_too_low =
-          (λ e. absurd (let n : ◌≡◌ {A = ℕ} 1 3 = cc in omega arith), λ all. absurd (omega (arith, all.0)));
-      best = λ i d e. absurd (let n : ◌≡◌ {A = ℕ} 0 1 = cc in omega arith);
+          (λ e. cc, λ all. absurd (omega (arith, all.0)));
+      best = λ i d e. cc;
     }
 
 pub search_law : (r : ℕ) (ss : List ℕ) → SearchLaw r ss (searched r ss)

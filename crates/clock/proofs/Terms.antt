@@ -1,5 +1,5 @@
 -- The first term of F63 that is not below a fraction is the least of all small fractions that are not below it.
-use Rattle.std.proofs.Common.{◌≡◌, ℕ, zero, suc, ◌+◌, ◌*◌, ◌%◌, ◌<◌, ◌≤◌, Bool, true, false, cond, List, [], ◌∷◌, length, is_some, Some, None, sym, refl, ⊎_elim, add-zero, mul-le-mul_left, mod-lt, arith}
+use Rattle.std.proofs.Common.{◌≡◌, ℕ, zero, suc, ◌+◌, ◌*◌, ◌%◌, ◌<◌, ◌≤◌, Bool, true, false, cond, List, [], ◌∷◌, length, is_some, Some, sym, refl, ⊎_elim, add-zero, mul-le-mul_left, mod-lt, arith}
 use Rattle.std.proofs.lemmas.Bool.{leb-true, leb-false, cases_lt, le-leb, lt-leb, cond_both}
 use Rattle.clock.specs.Farey.{f63}
 use Rattle.clock.specs.Closest.{first_not_below, not_below, least_term}
@@ -37,9 +37,6 @@ next_found t ts k x y u f =
       reached = f.reached;
     }
 
-none_is : {X : Type 0} (x : X) → None ≡ Some x → ⊥
-none_is x e = let z : ◌≡◌ {A = ℕ} 0 1 = cc in omega arith
-
 -- the answer at a list's first term, by the test there, where `later` is what holds of the rest
 found_by : (t : Fraction) (ts : List Fraction) (k x y : ℕ) (u : Term) → Ranges t → (b : Bool) → not_below t x y ≡ b
     → cond b (Some (record { fraction = t; place = k })) (first_not_below ts (k + 1) x y) ≡ Some u
@@ -59,7 +56,7 @@ found_by t ts k x y u h false test e later = next_found t ts k x y u (later e)
 
 pub found : (ts : List Fraction) (k x y : ℕ) (u : Term) → Linked ts → first_not_below ts k x y ≡ Some u → Found ts k x y u
 found [] k x y u h e = absurd h
-found (t ∷ []) k x y u h e = found_by t [] k x y u h.0 (not_below t x y) refl e (λ d. absurd (none_is u d))
+found (t ∷ []) k x y u h e = found_by t [] k x y u h.0 (not_below t x y) refl e (λ d. cc)
 found (t ∷ (v ∷ ts)) k x y u h e =
     found_by t (v ∷ ts) k x y u h.0 (not_below t x y) refl e (found (v ∷ ts) (k + 1) x y u h.2)
 
@@ -92,7 +89,7 @@ least_by t v ts k x y u next low false test e later = later (leb-false _ _ test)
 -- after a term that is below
 least_after : (t : Fraction) (ts : List Fraction) (k x y : ℕ) (u : Term) → Linked (t ∷ ts) → Below t x y
     → first_not_below ts k x y ≡ Some u → Least u x y
-least_after t [] k x y u h low e = absurd (none_is u e)
+least_after t [] k x y u h low e = cc
 least_after t (v ∷ ts) k x y u h low e =
     least_by t v ts k x y u h.1 low (not_below v x y) refl e (λ next d. least_after v ts (k + 1) x y u h.2 next d)
 

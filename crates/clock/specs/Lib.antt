@@ -1,4 +1,3 @@
-pub mod Divisors
 pub mod Farey
 pub mod Walk
 pub mod Sequence

@@ -76,6 +76,7 @@ fn without_fraction(div_num: u8) -> ClosestDivider
 }
 
 // A fraction in lowest terms: the same terms of the Farey sequence are not below it.
+#[tactic(auto, using(crate::proofs::Scaled::factor_positive, crate::proofs::Scaled::same_terms, crate::proofs::Scaled::zero_from, crate::proofs::Scaled::zero_to))]
 fn lowest_terms(numerator: u32, denominator: u32) -> Fraction
     requires { 0 < denominator }
     ensures same { least_term result.numerator result.denominator ≡ least_term numerator denominator }

@@ -30,6 +30,7 @@ pub fn calculate_output_frequency(source_frequency: u32, divider: &ClockDivider)
 }
 
 // SOURCE / (N + B/A) = (SOURCE * A) / (N * A + B), whose products want 64 bits.
+#[tactic(auto, using(crate::proofs::Outputs::hertz_le, crate::proofs::Outputs::divisor_positive))]
 fn divided_by_fraction(source: u32, n: u32, b: u8, a: u8) -> u32
     requires whole { 0 < n }
     requires denominator { 0 < a }

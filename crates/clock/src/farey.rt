@@ -55,6 +55,7 @@ impl FareySequence {
     ghost use Rattle.clock.specs.Sequence.{ahead};
 
     // Past 1/1 the numerator is above 63.
+    #[tactic(auto, using(crate::proofs::Walk::ended))]
     fn ended(&self) -> bool
         ensures { MatchBool result (ahead self.now ≡ []) (GoesOn self.now.place self.now.terms) }
     {

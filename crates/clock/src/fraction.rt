@@ -1,6 +1,6 @@
 // Fractions, and the highest common factor that brings them to lowest terms.
 ghost use Rattle.std.specs.Prelude.{◌≡◌, ◌+◌};
-ghost use Rattle.clock.specs.Divisors.{GreatestCommonDivisor};
+ghost use Rattle.std.specs.Int.{IsGcd};
 
 /// A fraction of two whole numbers.
 #[derive(Clone, Copy, PartialEq, Eq, Debug)]
@@ -19,9 +19,9 @@ pub struct Neighbours {
 }
 
 /// The highest common factor of two numbers, by Euclid's algorithm; 0 for 0 and 0.
-#[tactic(auto, using(crate::proofs::Euclid::euclid_step, crate::proofs::Euclid::euclid_end))]
+#[tactic(auto, using(crate::proofs::Euclid::euclid))]
 pub fn hcf(a: u32, b: u32) -> u32
-    ensures greatest { GreatestCommonDivisor a b result }
+    ensures greatest { IsGcd a b result }
     ensures none { a + b ≡ 0 → result ≡ 0 }
 {
     if b != 0 { hcf(b, a % b) } else { a }

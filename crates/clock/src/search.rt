@@ -82,6 +82,7 @@ fn better(
 
 // What the rules give for a list of sources is the best from below. The body is empty: as a lemma that `using` names,
 // the law is not found where the code returns.
+#[tactic(auto, using(crate::proofs::Sources::search_law))]
 fn best_from_below(frequency: u32, sources: &[u32])
     ensures { SearchLaw frequency sources.now (searched frequency sources.now) }
 {}
