@@ -3,4 +3,6 @@ pub mod Numerals
 pub mod Rows
 pub mod Lasts
 pub mod Escapes
-pub mod Names
+pub mod Found
+pub mod Pieces
+pub mod Mapped

@@ -1,26 +1,14 @@
 -- Digits and the number that they write, a digit at a time.
-use Rattle.std.proofs.Common.{◌≡◌, ℕ, ◌+◌, ◌-◌, ◌*◌, ◌<◌, ◌≤◌, Bool, true, false, ◌&&◌, leb, List, [], ◌∷◌, length, get_or, drop, sym, ap, ◌∙◌, arith}
+use Rattle.std.proofs.Common.{◌≡◌, ℕ, ◌+◌, ◌-◌, ◌*◌, ◌<◌, ◌≤◌, true, leb, List, [], ◌∷◌, length, get_or, drop, sym, ◌∙◌, arith}
 use Rattle.std.proofs.lemmas.List.{at_drop_more, at_drop_all}
 use Rattle.std.proofs.lemmas.Bool.{and_parts, leb-true}
-use Rattle.job.specs.Numbers.{digit, digits, value_after}
+use Rattle.std.specs.List.{list_all}
+use Rattle.job.specs.Numbers.{digit, value_after}
 
--- at a digit, the digits to come decide
-pub digits_on : (bs : List ℕ) (i : ℕ) → i < length bs → digit (get_or bs i 0) ≡ true
-    → digits (drop i bs) ≡ digits (drop (i + 1) bs)
-digits_on bs i h is =
-    at_drop_more digits bs i 0 h ∙ ap (λ (t : Bool). t && digits (drop (i + 1) bs)) is
-
--- at another byte they are not all digits
-pub digits_off : (bs : List ℕ) (i : ℕ) → i < length bs → digit (get_or bs i 0) ≡ false → digits (drop i bs) ≡ false
-digits_off bs i h is =
-    at_drop_more digits bs i 0 h ∙ ap (λ (t : Bool). t && digits (drop (i + 1) bs)) is
-
-pub digits_end : (bs : List ℕ) (i : ℕ) → length bs ≤ i → digits (drop i bs) ≡ true
-digits_end bs i h = at_drop_all digits bs i h
-
-pub digits_here : (bs : List ℕ) (i : ℕ) → i < length bs → digits (drop i bs) ≡ true
-    → (digit (get_or bs i 0) ≡ true) × (digits (drop (i + 1) bs) ≡ true)
-digits_here bs i h all = and_parts _ _ (sym (at_drop_more digits bs i 0 h) ∙ all)
+-- at an index, the digit there and the digits after it
+pub digits_here : (bs : List ℕ) (i : ℕ) → i < length bs → list_all digit (drop i bs) ≡ true
+    → (digit (get_or bs i 0) ≡ true) × (list_all digit (drop (i + 1) bs) ≡ true)
+digits_here bs i h all = and_parts _ _ (sym (at_drop_more (list_all digit) bs i 0 h) ∙ all)
 
 pub digit_range : (b : ℕ) → digit b ≡ true → (48 ≤ b) × (b ≤ 57)
 digit_range b is = let p = and_parts (leb 48 b) (leb b 57) is in (leb-true _ _ p.0, leb-true _ _ p.1)

@@ -1,5 +1,5 @@
 -- Numbers in a row, read one after another.
-use Rattle.std.proofs.Common.{◌≡◌, ℕ, cond, leb, List, [], ◌∷◌, ◌++◌, Ok, Err, Result, sym, refl, ap, ◌∙◌, subst, ap₂, append_assoc, arith}
+use Rattle.std.proofs.Common.{◌≡◌, ℕ, cond, leb, List, [], ◌∷◌, ◌++◌, Ok, Err, Result, sym, refl, ap, ◌∙◌, append_assoc}
 use Rattle.std.proofs.lemmas.Bool.{cond_both}
 use Rattle.job.specs.Meanings.{AreNumbers, Reads, TakesMemory}
 use Rattle.job.specs.Numbers.{number, numeral, value, before, numbers}
@@ -26,10 +26,10 @@ after_more ns w ws n is =
 
 -- after a number there is at least one
 pub after_some : (ns : List ℕ) (n : ℕ) (r : Result (List ℕ) Reason) → after (ns ++ (n ∷ [])) r ≡ Ok [] → ⊥
-after_some [] n (Ok ms) e = let z : ◌≡◌ {A = ℕ} 0 1 = cc in omega arith
-after_some (m ∷ ns) n (Ok ms) e = let z : ◌≡◌ {A = ℕ} 0 1 = cc in omega arith
-after_some [] n (Err x) e = let z : ◌≡◌ {A = ℕ} 0 1 = cc in omega arith
-after_some (m ∷ ns) n (Err x) e = let z : ◌≡◌ {A = ℕ} 0 1 = cc in omega arith
+after_some [] n (Ok ms) e = cc
+after_some (m ∷ ns) n (Ok ms) e = cc
+after_some [] n (Err x) e = cc
+after_some (m ∷ ns) n (Err x) e = cc
 
 -- a word that is no number has one of two reasons
 abbrev NumberReason : {A : Type 0} → Result A Reason → Type 0
@@ -66,12 +66,10 @@ with_frequency n (Err (not_a_number w)) h some = tt
 with_frequency n (Err (too_large w)) h some = tt
 
 -- what keeps the sources from being read keeps the line from being read
-pub broken : (e : Unreadable) (w : List ℕ) (ws : List (List ℕ)) (n : ℕ) → number w ≡ Ok n
-    → AreNumbers (Err e) (numbers ws) → Reads (Err e) (clock_of (numbers (w ∷ ws)))
-broken (UnknownStatement u) w ws n is h = absurd h
-broken MissingFrequency w ws n is h = absurd h
-broken (NotANumber u) w ws n is h = ap₂ (λ (o : Result ℕ Reason) (r : Result (List ℕ) Reason). clock_of (before o r)) is h
-broken (TooLarge u) w ws n is h = ap₂ (λ (o : Result ℕ Reason) (r : Result (List ℕ) Reason). clock_of (before o r)) is h
-broken OutOfMemory w ws n is h =
-    subst (λ (o : Result ℕ Reason). TakesMemory (clock_of (before o (numbers ws)))) (sym is)
-    (with_frequency n (numbers ws) (numbers_reason ws) h)
+pub broken : (e : Unreadable) (ws : List (List ℕ)) (n : ℕ) → AreNumbers (Err e) (numbers ws)
+    → Reads (Err e) (clock_of (before (Ok n) (numbers ws)))
+broken (UnknownStatement u) ws n h = absurd h
+broken MissingFrequency ws n h = absurd h
+broken (NotANumber u) ws n h = ap (λ (r : Result (List ℕ) Reason). clock_of (before (Ok n) r)) h
+broken (TooLarge u) ws n h = ap (λ (r : Result (List ℕ) Reason). clock_of (before (Ok n) r)) h
+broken OutOfMemory ws n h = with_frequency n (numbers ws) (numbers_reason ws) h

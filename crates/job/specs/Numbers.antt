@@ -1,5 +1,6 @@
 -- Decimal numbers: ASCII digits only, at least one, leading zeros allowed, and no more than a u32 holds.
-use Rattle.std.specs.Prelude.{ℕ, ◌+◌, ◌-◌, ◌*◌, Bool, true, cond, ◌&&◌, List, [], ◌∷◌, length, Ok, Err, Result, nat_le, nat_lt}
+use Rattle.std.specs.Prelude.{ℕ, ◌+◌, ◌-◌, ◌*◌, Bool, cond, ◌&&◌, List, [], ◌∷◌, length, Ok, Err, Result, nat_le, nat_lt}
+use Rattle.std.specs.List.{list_all}
 use Rattle.job.specs.Reasons.{Reason}
 use Rattle.job.specs.Reasons.Reason.{not_a_number, too_large}
 
@@ -7,12 +8,8 @@ use Rattle.job.specs.Reasons.Reason.{not_a_number, too_large}
 abbrev pub digit : ℕ → Bool
 digit b = nat_le 48 b && nat_le b 57
 
-abbrev pub digits : List ℕ → Bool
-digits [] = true
-digits (b ∷ bs) = digit b && digits bs
-
 abbrev pub numeral : List ℕ → Bool
-numeral bs = nat_lt 0 (length bs) && digits bs
+numeral bs = nat_lt 0 (length bs) && list_all digit bs
 
 -- the number that digits write after n
 abbrev pub value_after : ℕ → List ℕ → ℕ

@@ -1,5 +1,6 @@
 -- A word of the input in a message.
 use Rattle.std.specs.Prelude.{ℕ, ◌+◌, ◌/◌, ◌%◌, Bool, cond, not, ◌&&◌, List, [], ◌∷◌, ◌++◌, length, take, codes, ◌==◌, nat_le, nat_lt}
+use Rattle.std.specs.List.{flat_map}
 
 -- printable ASCII, but no quote, 34, and no backslash, 92
 abbrev pub plain : ℕ → Bool
@@ -14,8 +15,7 @@ unfoldable pub escaped_byte : ℕ → List ℕ
 escaped_byte b = cond (plain b) (b ∷ []) (codes "\\x" ++ (hex (b / 16) ∷ (hex (b % 16) ∷ [])))
 
 abbrev pub escaped : List ℕ → List ℕ
-escaped [] = []
-escaped (b ∷ bs) = escaped_byte b ++ escaped bs
+escaped bs = flat_map escaped_byte bs
 
 -- the first 32 bytes in quotes, and .. after them where the word is longer
 abbrev pub quoted : List ℕ → List ℕ

@@ -1,5 +1,6 @@
 -- What can be seen of a board, and how it is printed.
-use Rattle.std.specs.Prelude.{ℕ, List, [], ◌∷◌, ◌++◌, map, codes, decimal}
+use Rattle.std.specs.Prelude.{ℕ, List, ◌++◌, map, codes, decimal}
+use Rattle.std.specs.List.{flat_map}
 use Rattle.board.specs.Clocks.{side_hertz}
 use Rattle.board.specs.Fields.{bit}
 use Rattle.board.specs.Registers.{name}
@@ -9,6 +10,7 @@ use Rattle.board.specs.declared.register.Register.{Register}
 use Rattle.board.specs.declared.register.Side.{Side}
 use Rattle.board.specs.declared.register.Side.TheVariants.{Panel, Camera}
 use Rattle.job.specs.Hexadecimal.{hex_word}
+use Rattle.job.specs.Names.{side_name}
 use Rattle.job.specs.declared.report.RegisterLine.{RegisterLine}
 use Rattle.job.specs.declared.report.SideLine.{SideLine}
 use Rattle.job.specs.declared.report.Report.{Report}
@@ -34,12 +36,7 @@ register_text l =
 
 -- each line with its line feed
 abbrev pub lines_text : List RegisterLine → List ℕ
-lines_text [] = []
-lines_text (l ∷ ls) = (register_text l ++ codes "\n") ++ lines_text ls
-
-abbrev pub side_name : Side → List ℕ
-side_name Panel = codes "panel"
-side_name Camera = codes "camera"
+lines_text ls = flat_map (λ l. register_text l ++ codes "\n") ls
 
 abbrev pub side_text : SideLine → List ℕ
 side_text l =

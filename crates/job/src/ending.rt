@@ -10,11 +10,9 @@ pub fn without_ending(line: &[u8]) -> &[u8]
     without_last(without_last(line, b'\n'), b'\r')
 }
 
+#[tactic(auto, using(crate::proofs::Lasts::last_goes, crate::proofs::Lasts::last_stays))]
 fn without_last(line: &[u8], byte: u8) -> &[u8]
     ensures { result.now ≡ without_last byte line.now }
 {
-    let Some((last, front)) = line.split_last() else {
-        return line;
-    };
-    if *last == byte { front } else { line }
+    line.strip_suffix(&[byte]).unwrap_or(line)
 }

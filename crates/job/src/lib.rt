@@ -1,8 +1,8 @@
 // Job scripts: what a line says, and the answer to it.
 #![tactic(auto)]
 
-pub mod answer;
 pub mod ending;
+pub mod error;
 pub mod evaluate;
 pub mod keyword;
 pub mod number;
@@ -10,6 +10,7 @@ pub mod quoted;
 pub mod reader;
 pub mod reply;
 pub mod report;
+pub mod setting;
 pub mod statement;
 #[cfg(test)]
 mod tests;

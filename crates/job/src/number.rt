@@ -1,6 +1,7 @@
 // Decimal numbers.
-ghost use Rattle.std.specs.Prelude.{◌≡◌, ◌<◌, true, MatchOption};
-ghost use Rattle.job.specs.Numbers.{digits, numeral, value};
+ghost use Rattle.std.specs.Prelude.{◌≡◌, ◌<◌, IsTrue, MatchOption};
+ghost use Rattle.std.specs.List.{list_all};
+ghost use Rattle.job.specs.Numbers.{digit, numeral, value};
 ghost use Rattle.job.specs.Meanings.{IsNumber};
 
 use crate::unreadable::Unreadable;
@@ -12,26 +13,25 @@ pub fn read_number(word: &[u8]) -> Result<u32, Unreadable<'_>>
     if !is_numeral(word) {
         return Err(Unreadable::NotANumber(word));
     }
-    match value_of(word) {
-        Some(value) => Ok(value),
-        None => Err(Unreadable::TooLarge(word)),
-    }
+    value_of(word).ok_or(Unreadable::TooLarge(word))
 }
 
 fn is_numeral(word: &[u8]) -> bool
     ensures { result ≡ numeral word.now }
 {
-    for b in word {
-        if !b.is_ascii_digit() {
-            return false;
-        }
-    }
-    !word.is_empty()
+    !word.is_empty() && all_digits(word)
+}
+
+fn all_digits(word: &[u8]) -> bool
+    ensures { result ≡ list_all digit word.now }
+{
+    word.iter().all(|b| b.is_ascii_digit())
 }
 
 // What the digits write, unless it is too large for the result.
+#[tactic(auto, using(crate::proofs::Numerals::digits_here, crate::proofs::Numerals::digit_range, crate::proofs::Numerals::value_on, crate::proofs::Numerals::value_end, crate::proofs::Numerals::value_grows), unfolding(crate::specs::Numbers::value))]
 fn value_of(digits: &[u8]) -> Option<u32>
-    requires { numeral «digits».now ≡ true }
+    requires { IsTrue (numeral «digits».now) }
     ensures { MatchOption result (4294967295 < value digits.now) (λ n. n ≡ value digits.now) }
 {
     let mut value = 0u64;

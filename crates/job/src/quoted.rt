@@ -1,7 +1,6 @@
 // A word of the input in a message.
-ghost use Rattle.std.specs.Fmt.{WritesOnOk};
-ghost use Rattle.std.specs.Prelude.{◌≡◌, ◌<◌, Some};
-ghost use Rattle.job.specs.Quotes.{quoted, escaped, escaped_byte, plain, hex};
+ghost use Rattle.std.specs.Prelude.{◌≡◌, Some};
+ghost use Rattle.job.specs.Quotes.{quoted, escaped, escaped_byte, plain};
 
 use std::fmt;
 
@@ -34,31 +33,30 @@ struct Escaped<'a>(&'a [u8]);
 impl fmt::Display for Escaped<'_> {
     ghost output = { λ e. Some (escaped e.0.now) };
 
+    #[tactic(auto, using(crate::proofs::Pieces::piece_more))]
     fn fmt<W: fmt::Write>(&self, f: &mut fmt::Formatter<W>) -> fmt::Result {
-        show_bytes(self.0, f)
+        for b in self.0 {
+            let b = EscapedByte(*b);
+            write!(f, "{b}")?;
+        }
+        Ok(())
     }
 }
 
-// It calls itself for each byte, of which there are few.
-fn show_bytes<W: fmt::Write>(bytes: &[u8], f: &mut fmt::Formatter<W>) -> fmt::Result
-    ensures { WritesOnOk W.write_str_gives f.old result (escaped bytes.now) f.new }
-{
-    let Some((first, rest)) = bytes.split_first() else {
-        return Ok(());
-    };
-    show_byte(*first, f)?;
-    show_bytes(rest, f)
-}
+#[derive(Clone, Copy)]
+struct EscapedByte(u8);
 
-fn show_byte<W: fmt::Write>(b: u8, f: &mut fmt::Formatter<W>) -> fmt::Result
-    ensures { WritesOnOk W.write_str_gives f.old result (escaped_byte b) f.new }
-{
-    if is_plain(b) {
-        f.write_char(b as char)
-    } else {
-        let high = hex_digit(b / 16);
-        let low = hex_digit(b % 16);
-        write!(f, "\\x{high}{low}")
+impl fmt::Display for EscapedByte {
+    ghost output = { λ b. Some (escaped_byte b.0) };
+
+    #[tactic(auto, using(crate::proofs::Escapes::plain_shown, crate::proofs::Escapes::other_shown))]
+    fn fmt<W: fmt::Write>(&self, f: &mut fmt::Formatter<W>) -> fmt::Result {
+        let b = self.0;
+        if is_plain(b) {
+            f.write_char(b as char)
+        } else {
+            write!(f, "\\x{b:02x}")
+        }
     }
 }
 
@@ -66,16 +64,4 @@ fn is_plain(b: u8) -> bool
     ensures { result ≡ plain b }
 {
     b.is_ascii_graphic() && b != b'"' && b != b'\\'
-}
-
-/// A hexadecimal digit: 0 to 9, a to f.
-pub(crate) fn hex_digit(n: u8) -> char
-    requires { n < 16 }
-    ensures { result ≡ hex n }
-{
-    if n < 10 {
-        (b'0' + n) as char
-    } else {
-        (b'a' + (n - 10)) as char
-    }
 }

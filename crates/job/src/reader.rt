@@ -8,14 +8,15 @@ use crate::keyword::{Keyword, keyword_of};
 use crate::number::read_number;
 use crate::statement::Statement;
 use crate::unreadable::Unreadable;
-use crate::words::next_word;
+use crate::words::Words;
 use std::alloc::Global;
 
 /// What a line says: a statement, nothing (an empty line or a comment), or the reason why it cannot be read.
 pub fn read_line(heap: Global, line: &[u8]) -> Result<Option<Statement>, Unreadable<'_>>
     ensures { Reads result (statement line.now) }
 {
-    let Some((word, rest)) = next_word(line) else {
+    let mut rest = Words(line);
+    let Some(word) = rest.next() else {
         return Ok(None);
     };
     match keyword_of(word) {
@@ -26,10 +27,11 @@ pub fn read_line(heap: Global, line: &[u8]) -> Result<Option<Statement>, Unreada
 }
 
 // What follows the word `clock`.
-fn read_clock(heap: Global, text: &[u8]) -> Result<Option<Statement>, Unreadable<'_>>
-    ensures { Reads result (clock_of (numbers (words text.now))) }
+#[tactic(auto, using(crate::proofs::Rows::broken))]
+fn read_clock<'a>(heap: Global, mut rest: Words<'a>) -> Result<Option<Statement>, Unreadable<'a>>
+    ensures { Reads result (clock_of (numbers (words rest.entry.0.now))) }
 {
-    let Some((word, rest)) = next_word(text) else {
+    let Some(word) = rest.next() else {
         return Err(Unreadable::MissingFrequency);
     };
     let frequency = read_number(word)?;
@@ -37,17 +39,14 @@ fn read_clock(heap: Global, text: &[u8]) -> Result<Option<Statement>, Unreadable
     Ok(Some(Statement::Clock { frequency, sources }))
 }
 
-fn read_numbers(heap: Global, text: &[u8]) -> Result<Vec<u32>, Unreadable<'_>>
-    ensures { AreNumbers result (numbers (words text.now)) }
+#[tactic(auto, using(crate::proofs::Rows::after_more, crate::proofs::Rows::after_some))]
+fn read_numbers<'a>(heap: Global, rest: Words<'a>) -> Result<Vec<u32>, Unreadable<'a>>
+    ensures { AreNumbers result (numbers (words rest.entry.0.now)) }
 {
     let mut all = Vec::new(heap);
-    let mut rest = text;
-    while let Some((word, after)) = next_word(rest) {
+    for word in rest {
         let number = read_number(word)?;
-        if all.push(number).is_err() {
-            return Err(Unreadable::OutOfMemory);
-        }
-        rest = after;
+        all.push(number)?;
     }
     Ok(all)
 }

@@ -1,13 +1,11 @@
 // What can be seen of a board: a line for each register, and one for each side.
 ghost use Rattle.std.specs.Prelude.{◌≡◌, Some};
-ghost use Rattle.std.specs.Fmt.{WritesOnOk};
-ghost use Rattle.job.specs.Hexadecimal.{hex_byte, hex_word};
-ghost use Rattle.job.specs.Reports.{register_line, register_lines, register_text, lines_text, side_line, side_text, report, report_text};
+ghost use Rattle.job.specs.Reports.{register_line, register_lines, register_text, side_line, side_text, report, report_text};
 
-use crate::quoted::hex_digit;
+use crate::keyword::side_name;
 use board::control::Control;
 use board::inspect::{Inspect, clock_in_force};
-use board::register::{Register, Side};
+use board::register::{REGISTERS, Register, Side};
 use std::fmt;
 
 /// The word of a register as a read answers it, and the one in force.
@@ -47,23 +45,11 @@ pub fn report_of<B: Inspect>(board: &B) -> Report
 }
 
 // A line for each register, in the board's order.
+#[tactic(auto, unfolding(crate::specs::Reports::register_lines))]
 fn register_lines<B: Inspect>(board: &B) -> [RegisterLine; 12]
     ensures { result ≡ register_lines (B.Board.meaning board.now) }
 {
-    [
-        register_line(board, Register::LcdClock),
-        register_line(board, Register::LcdUser),
-        register_line(board, Register::LcdMisc),
-        register_line(board, Register::LcdCtrl),
-        register_line(board, Register::LcdCtrl1),
-        register_line(board, Register::LcdCtrl2),
-        register_line(board, Register::LcdRgbYuv),
-        register_line(board, Register::LcdDlyMode),
-        register_line(board, Register::LcdDataDoutMode),
-        register_line(board, Register::CamCtrl),
-        register_line(board, Register::CamCtrl1),
-        register_line(board, Register::CamRgbYuv),
-    ]
+    REGISTERS.map(|register| register_line(board, register))
 }
 
 fn register_line<B: Inspect>(board: &B, register: Register) -> RegisterLine
@@ -89,44 +75,26 @@ fn side_line<B: Inspect>(board: &B, side: Side) -> SideLine
 impl fmt::Display for Report {
     ghost output = { λ r. Some (report_text r) };
 
+    #[tactic(auto, using(crate::proofs::Pieces::piece_more))]
     fn fmt<W: fmt::Write>(&self, f: &mut fmt::Formatter<W>) -> fmt::Result {
-        let registers = RegisterLines(&self.registers);
+        for line in &self.registers {
+            writeln!(f, "{line}")?;
+        }
         let panel = self.panel;
         let camera = self.camera;
-        write!(f, "{registers}{panel}\n{camera}")
+        write!(f, "{panel}\n{camera}")
     }
-}
-
-#[derive(Clone, Copy)]
-struct RegisterLines<'a>(&'a [RegisterLine]);
-
-impl fmt::Display for RegisterLines<'_> {
-    ghost output = { λ l. Some (lines_text l.0.now) };
-
-    fn fmt<W: fmt::Write>(&self, f: &mut fmt::Formatter<W>) -> fmt::Result {
-        show_lines(self.0, f)
-    }
-}
-
-// It calls itself for each line, of which there are few.
-fn show_lines<W: fmt::Write>(lines: &[RegisterLine], f: &mut fmt::Formatter<W>) -> fmt::Result
-    ensures { WritesOnOk W.write_str_gives f.old result (lines_text lines.now) f.new }
-{
-    let Some((first, rest)) = lines.split_first() else {
-        return Ok(());
-    };
-    write!(f, "{first}\n")?;
-    show_lines(rest, f)
 }
 
 impl fmt::Display for RegisterLine {
     ghost output = { λ l. Some (register_text l) };
 
+    #[tactic(auto, using(crate::proofs::Escapes::word_shown))]
     fn fmt<W: fmt::Write>(&self, f: &mut fmt::Formatter<W>) -> fmt::Result {
         let name = self.register.name();
-        let written = HexWord(self.written);
-        let in_force = HexWord(self.in_force);
-        write!(f, "{name} {written} {in_force}")
+        let written = self.written;
+        let in_force = self.in_force;
+        write!(f, "{name} {written:08x} {in_force:08x}")
     }
 }
 
@@ -134,10 +102,7 @@ impl fmt::Display for SideLine {
     ghost output = { λ l. Some (side_text l) };
 
     fn fmt<W: fmt::Write>(&self, f: &mut fmt::Formatter<W>) -> fmt::Result {
-        let side = match self.side {
-            Side::Panel => "panel",
-            Side::Camera => "camera",
-        };
+        let side = side_name(self.side);
         let start = self.control.start as u8;
         let reset = self.control.reset as u8;
         let afifo = self.control.afifo_reset as u8;
@@ -146,35 +111,5 @@ impl fmt::Display for SideLine {
             f,
             "{side} start {start} reset {reset} afifo {afifo} hertz {hertz}"
         )
-    }
-}
-
-// A word as eight hexadecimal digits.
-#[derive(Clone, Copy)]
-struct HexWord(u32);
-
-impl fmt::Display for HexWord {
-    ghost output = { λ h. Some (hex_word h.0) };
-
-    fn fmt<W: fmt::Write>(&self, f: &mut fmt::Formatter<W>) -> fmt::Result {
-        let [a, b, c, d] = self.0.to_be_bytes();
-        let a = HexByte(a);
-        let b = HexByte(b);
-        let c = HexByte(c);
-        let d = HexByte(d);
-        write!(f, "{a}{b}{c}{d}")
-    }
-}
-
-#[derive(Clone, Copy)]
-struct HexByte(u8);
-
-impl fmt::Display for HexByte {
-    ghost output = { λ h. Some (hex_byte h.0) };
-
-    fn fmt<W: fmt::Write>(&self, f: &mut fmt::Formatter<W>) -> fmt::Result {
-        let high = hex_digit(self.0 / 16);
-        let low = hex_digit(self.0 % 16);
-        write!(f, "{high}{low}")
     }
 }

@@ -1,5 +1,5 @@
 // Lines of a script and what is printed for them.
-use crate::reply::{Reply, reply_to};
+use crate::reply::reply_to;
 use std::alloc::Global;
 use std::process::Abort;
 use std::test::Fail;
@@ -7,15 +7,11 @@ use std::test::Fail;
 // The line is answered by the text, and where that is empty by nothing.
 fn says(rt: &impl Abort, heap: Global, line: &[u8], text: &str) -> Result<(), Fail> {
     match reply_to(heap, line) {
-        Some(reply) => {
-            assert_eq!(rt; format!(in heap; "{reply}")?.as_str(), text);
-            Ok(())
-        },
-        None => {
-            assert_eq!(rt; "", text);
-            Ok(())
-        },
+        Ok(Some(setting)) => assert_eq!(rt; format!(in heap; "{setting}")?.as_str(), text),
+        Ok(None) => assert_eq!(rt; "", text),
+        Err(error) => assert_eq!(rt; format!(in heap; "{error}")?.as_str(), text),
     }
+    Ok(())
 }
 
 #[test]

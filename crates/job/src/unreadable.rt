@@ -1,8 +1,10 @@
 // Why a line cannot be read.
-ghost use Rattle.std.specs.Prelude.{Some};
+ghost use Rattle.std.specs.Prelude.{◌≡◌, Some};
 ghost use Rattle.job.specs.Printed.{reason_text};
+ghost use Rattle.job.specs.declared.unreadable.Unreadable.TheVariants.{OutOfMemory};
 
 use crate::quoted::Quoted;
+use std::alloc::AllocFailed;
 use std::fmt;
 
 /// The reason why a line cannot be read, with the word that it is about.
@@ -18,6 +20,14 @@ pub enum Unreadable<'a> {
     TooLarge(&'a [u8]),
     /// There is no memory for the line's numbers.
     OutOfMemory,
+}
+
+impl<T: Drop> From<AllocFailed<T>> for Unreadable<'_> {
+    ghost from_gives = { λ _ r. r ≡ OutOfMemory };
+
+    fn from(_refused: AllocFailed<T>) -> Self {
+        Self::OutOfMemory
+    }
 }
 
 impl fmt::Display for Unreadable<'_> {

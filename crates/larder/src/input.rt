@@ -1,6 +1,6 @@
 // The lines of the input.
 ghost use Rattle.std.specs.Prelude.{IfOk, vec_len};
-ghost use Rattle.larder.specs.Filled.{Filled};
+ghost use Rattle.larder.specs.Filled.{Filled, Gives};
 
 use std::io;
 use std::io::{BufRead, ErrorKind};
@@ -17,27 +17,20 @@ pub enum Line {
 
 /// Reads a line with its ending into the buffer, in place of what the buffer held.
 pub fn next_line<R: BufRead>(input: &mut R, line: &mut Vec<u8>) -> io::Result<Line>
-    ensures { IfOk result (λ came. Filled came (vec_len line.new)) }
+    ensures filled { IfOk result (λ came. Filled came (vec_len line.new)) }
+
+    // Where the bytes of the input are known.
+    ensures gives { IfOk result (λ came. Gives came (R.remaining input.old) (R.remaining input.new) line.new.items) }
 {
     line.clear();
-    let mut whole = true;
-    for _ in 0..u64::MAX {
-        match input.read_until(b'\n', line) {
-            Ok(n) => return Ok(if !whole {
-                Line::TooLong
-            } else if n == 0 {
-                Line::End
-            } else {
-                Line::Whole
-            }),
-            Err(e) => {
-                if e.kind() != ErrorKind::OutOfMemory {
-                    return Err(e);
-                }
-                line.clear();
-                whole = false;
-            }
+    match input.read_until(b'\n', line) {
+        Ok(0) => Ok(Line::End),
+        Ok(_) => Ok(Line::Whole),
+        Err(e) if e.kind() == ErrorKind::OutOfMemory => {
+            line.clear();
+            input.skip_until(b'\n')?;
+            Ok(Line::TooLong)
         }
+        Err(e) => Err(e),
     }
-    Ok(Line::End)
 }

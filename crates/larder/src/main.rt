@@ -4,7 +4,8 @@
 mod input;
 
 use input::{Line, next_line};
-use job::reply::{Reply, reply_to};
+use job::error::JobError;
+use job::reply::reply_to;
 use job::unreadable::Unreadable;
 use std::alloc::Global;
 use std::env::Args;
@@ -13,8 +14,7 @@ use std::io::{BufReader, BufWriter, Read, Write};
 use std::process::ExitCode;
 use std::{env, io};
 
-// Room for a line at the start. It holds what the reader passes on at once, so that a line for which there is no more
-// memory can still be read to its end.
+// Room for a line at the start, so that a line of usual length is read even where there is no more memory.
 const ROOM: usize = 65536;
 
 fn main(rt: HostRuntime) -> ExitCode {
@@ -61,10 +61,7 @@ fn answer<R: Read + Drop>(rt: &HostRuntime, script: R) -> io::Result<()> {
     for _ in 0..u64::MAX {
         match next_line(&mut script, &mut line)? {
             Line::Whole => print_reply(&mut out, heap, line.as_slice())?,
-            Line::TooLong => {
-                let reply = Reply::Error(Unreadable::OutOfMemory);
-                writeln!(out, "{reply}")?;
-            }
+            Line::TooLong => out.writeln(JobError::Unread(Unreadable::OutOfMemory))?,
             Line::End => break,
         }
         // Who waits for an answer before the next line gets it.
@@ -77,7 +74,8 @@ fn answer<R: Read + Drop>(rt: &HostRuntime, script: R) -> io::Result<()> {
 
 fn print_reply<W: Write>(out: &mut W, heap: Global, line: &[u8]) -> io::Result<()> {
     match reply_to(heap, line) {
-        Some(reply) => out.writeln(reply),
-        None => Ok(()),
+        Ok(Some(setting)) => out.writeln(setting),
+        Ok(None) => Ok(()),
+        Err(error) => out.writeln(error),
     }
 }
