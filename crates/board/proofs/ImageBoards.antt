@@ -138,17 +138,3 @@ write_is s r w ws whole = by (side r) refl
         ap₂ (λ p k. record { sources = s; panel = p; camera = k })
         (off_side Panel panel_words panel_word same_panel panel_word_of r w ws whole (λ f. apart (f ∙ e)))
         (on_side Camera camera_words camera_word same_camera camera_word_of r w ws whole e)
-
--- a poll of an endless run, or of none, leaves all as it is
-poll_leaves : {Words : Type 0} (w i : Words) (c : Control) → side_polled (endless_side w i c) ≡ endless_side w i c
-poll_leaves w i c = by c.start c.reset c.afifo_reset
-  where
-    by : (b x y : Bool) →
-        let k : Control = record { start = b; reset = x; afifo_reset = y } in
-        side_polled (endless_side w i k) ≡ endless_side w i k
-    by true x y = refl
-    by false x y = refl
-
-pub poll_is : (s : Sources) (x : Side) (ws : List ℕ) → polled_on x (image s ws) ≡ image s ws
-poll_is s Panel ws = ap (λ p. record { sources = s; panel = p; camera = (image s ws).camera }) (poll_leaves (image s ws).panel.written (image s ws).panel.in_force (control_in Panel ws))
-poll_is s Camera ws = ap (λ k. record { sources = s; panel = (image s ws).panel; camera = k }) (poll_leaves (image s ws).camera.written (image s ws).camera.in_force (control_in Camera ws))

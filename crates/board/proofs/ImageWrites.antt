@@ -9,8 +9,8 @@ use Rattle.board.proofs.Parts.{put_reads_back}
 use Rattle.board.proofs.Variants.{each, number, number_one}
 use Rattle.board.specs.Controls.{requested, marked, started, controlled}
 use Rattle.board.specs.Fields.{part, put_part, bit, flag, stored, stored_mask}
-use Rattle.board.specs.Images.{mark_place, start_in, control_in, endless_side, stored_from, masks, marks, first, count, n_in_force, put_in_force, stored_in, updated_in, control_after, image_written}
-use Rattle.board.specs.Registers.{index, side, same_register}
+use Rattle.board.specs.Images.{mark_place, start_in, control_in, endless_side, stored_from, masks, marks, n_in_force, put_in_force, stored_in, updated_in, control_after, image_written}
+use Rattle.board.specs.Registers.{index, side, first, count, same_register}
 use Rattle.board.specs.States.{left_after, side_written, with_start}
 use Rattle.board.specs.States.Polls.{ending, endless}
 use Rattle.board.specs.Words.{replaced}
@@ -67,9 +67,6 @@ placed q =
 pub index_small : (q : Register) → index q < 12
 index_small q = ltb-true _ _ (each regs.enum (λ r. ltb (index r) 12) refl q)
 
-pub index_within : (q : Register) → index q < 34
-index_within q = omega (arith, index_small q)
-
 pub mark_within : (q : Register) → mark_place (side q) < 34
 mark_within q = ltb-true _ _ (each regs.enum (λ r. ltb (mark_place (side r)) 34) refl q)
 
@@ -80,23 +77,10 @@ same_is q r e =
     number_one regs.enum refl q r (counts q ∙ eqb-true (index q) (index r) e ∙ sym (counts r))
 
 -- start lies beside what its register stores
-pub stored_start : (r : Register) (b c : Bool) (w : ℕ) → stored r (with_start r b c (stored r w)) ≡ stored r w
-stored_start LcdUser b c w = and_unseen 27 1 (bit b) (stored LcdUser w) _ refl ∙ and_twice w _
-stored_start CamCtrl1 b c w = and_unseen 29 1 (bit c) (stored CamCtrl1 w) _ refl ∙ and_twice w _
-stored_start LcdClock b c w = and_twice w _
-stored_start LcdMisc b c w = and_twice w _
-stored_start LcdCtrl b c w = and_twice w _
-stored_start LcdCtrl1 b c w = and_twice w _
-stored_start LcdCtrl2 b c w = and_twice w _
-stored_start LcdRgbYuv b c w = and_twice w _
-stored_start LcdDlyMode b c w = and_twice w _
-stored_start LcdDataDoutMode b c w = and_twice w _
-stored_start CamCtrl b c w = and_twice w _
-stored_start CamRgbYuv b c w = and_twice w _
-
-bit_is : (b : Bool) → eqb (bit b % 2) 1 ≡ b
-bit_is true = refl
-bit_is false = refl
+pub stored_start : (r : Register) (b : Bool) (w : ℕ) → stored r (with_start r b (stored r w)) ≡ stored r w
+stored_start LcdUser b w = and_unseen 27 1 (bit b) (stored LcdUser w) _ refl ∙ and_twice w _
+stored_start CamCtrl1 b w = and_unseen 29 1 (bit b) (stored CamCtrl1 w) _ refl ∙ and_twice w _
+stored_start _ b w = and_twice w _
 
 pub marks_reset : (c : Control) → eqb (marks c % 2) 1 ≡ c.reset
 marks_reset c = of c.reset c.afifo_reset
@@ -164,7 +148,7 @@ module _ (r : Register) (w : ℕ) (ws : List ℕ) (whole : length ws ≡ 34) whe
   now_written = image_written r w ws
 
   abbrev word : ℕ
-  word = with_start r c.start c.start (stored r w)
+  word = with_start r c.start (stored r w)
 
   place_large : 32 ≤ mark_place (side r)
   place_large = leb-true _ _ (each regs.enum (λ q. leb 32 (mark_place (side q))) refl r)
@@ -205,7 +189,7 @@ module _ (r : Register) (w : ℕ) (ws : List ℕ) (whole : length ws ≡ 34) whe
     where
       by : (b : Bool) → same_register q r ≡ b
           → stored q (cond b word (get_or ws (index q) 0)) ≡ cond b (stored r w) (stored_from 0 ws q)
-      by true e = ap (λ x. stored x word) (same_is q r e) ∙ stored_start r c.start c.start w
+      by true e = ap (λ x. stored x word) (same_is q r e) ∙ stored_start r c.start w
       by false e = ap (λ k. stored q (get_or ws k 0)) (sym (zero-add (index q)))
 
   -- an unchanged word in force

@@ -1,9 +1,8 @@
 -- Words of an image one by one: cleaned, and put in force.
-use Rattle.std.proofs.Common.{◌≡◌, ℕ, zero, suc, ◌+◌, ◌-◌, ◌^◌, ◌<◌, ◌≤◌, ◌≢◌, List, [], ◌∷◌, ◌++◌, length, get_or, take, drop, set, sym, refl, ap, ◌∙◌, subst, inl, inr, le_of_suc-le-suc, not-suc-le-zero, mod-eq_of_lt, add-one, arith}
-use lib.Bits.{bit_and, and_mask}
-use Rattle.std.proofs.lemmas.List.{get_or-set_same, get_or-set_other, get_or-drop, take_all, drop_all, append-nil}
-use Rattle.std.proofs.lemmas.Bool.{cases_eq}
-use Rattle.board.specs.Images.{masked, masks, n_in_force, KeptPlace, KeepsTheRest}
+use Rattle.std.proofs.Common.{◌≡◌, ℕ, zero, suc, ◌+◌, ◌-◌, ◌^◌, ◌<◌, ◌≤◌, ◌≢◌, List, [], ◌∷◌, ◌++◌, length, get_or, take, drop, set, sym, refl, ap, ◌∙◌, inl, inr, le_of_suc-le-suc, not-suc-le-zero, add-one, arith}
+use lib.Bits.{bit_and}
+use Rattle.std.proofs.lemmas.List.{get_or-set_other, get_or-drop, take_all, drop_all, append-nil}
+use Rattle.board.specs.Images.{masked, masks, n_in_force, KeptPlace}
 
 -- one word more is cleaned
 pub masked_more : (ms ws : List ℕ) (i : ℕ) → length ms ≡ length ws → i < length ws
@@ -61,7 +60,7 @@ first_four x rest (suc (suc zero)) h = refl
 first_four x rest (suc (suc (suc zero))) h = refl
 first_four x rest (suc (suc (suc (suc j)))) h = absurd (omega arith)
 
-kept_mask : (k : ℕ) → KeptPlace k → get_or masks k 0 ≡ 2 ^ 32 - 1
+pub kept_mask : (k : ℕ) → KeptPlace k → get_or masks k 0 ≡ 2 ^ 32 - 1
 kept_mask k (inl p) =
     let is : k ≡ 12 + (k - 12) = omega (arith, p.0) in
     ap (λ n. get_or masks n 0) is
@@ -70,22 +69,6 @@ kept_mask k (inr p) =
     let is : k ≡ 28 + (k - 28) = omega (arith, p.0) in
     ap (λ n. get_or masks n 0) is
     ∙ sym (get_or-drop 28 masks (k - 28) 0) ∙ first_four (2 ^ 32 - 1) (drop 32 masks) (k - 28) (omega (arith, p.0, p.1))
-
--- one word more is cleaned, and words of no register are kept
-pub keeps_more : (ws : List ℕ) → length ws ≡ 34 → (i : ℕ) (now : List ℕ) → length now ≡ length ws → i < 34 → get_or now i 0 < 2 ^ 32
-    → KeepsTheRest ws now → KeepsTheRest ws (set now i (bit_and (get_or now i 0) (get_or masks i 0)))
-keeps_more ws whole i now long h small kept k place = elim (cases_eq k i) [
-  | inl here ↦
-      let mask : get_or masks i 0 ≡ 2 ^ 32 - 1 = subst (λ n. get_or masks n 0 ≡ 2 ^ 32 - 1) here (kept_mask k place) in
-      ap (λ n. get_or (set now i (bit_and (get_or now i 0) (get_or masks i 0))) n 0) here
-      ∙ get_or-set_same now i _ 0 (omega arith)
-      ∙ ap (λ m. bit_and (get_or now i 0) m) mask
-      ∙ and_mask (get_or now i 0) 32
-      ∙ mod-eq_of_lt small
-      ∙ ap (λ n. get_or now n 0) (sym here)
-      ∙ kept k place
-  | inr there ↦ get_or-set_other now i k _ 0 there ∙ kept k place
-]
 
 -- the words below 16 stay
 pub in_force_below : (n from : ℕ) (ws : List ℕ) (k : ℕ) → k < 16 → get_or (n_in_force n from ws) k 0 ≡ get_or ws k 0

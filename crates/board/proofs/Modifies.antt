@@ -101,16 +101,7 @@ read_field : (g : Field) (r : Register) (b : BoardState) → (place g).register 
 unfolding read
 read_field g LcdUser b e kept = (put_law LcdStart (bit b.panel.control.start) (written_word LcdUser b)).others_stay g e (not_that g LcdStart kept refl)
 read_field g CamCtrl1 b e kept = (put_law CamStart (bit b.camera.control.start) (written_word CamCtrl1 b)).others_stay g e (not_that g CamStart kept refl)
-read_field g LcdClock b e kept = refl
-read_field g LcdMisc b e kept = refl
-read_field g LcdCtrl b e kept = refl
-read_field g LcdCtrl1 b e kept = refl
-read_field g LcdCtrl2 b e kept = refl
-read_field g LcdRgbYuv b e kept = refl
-read_field g LcdDlyMode b e kept = refl
-read_field g LcdDataDoutMode b e kept = refl
-read_field g CamCtrl b e kept = refl
-read_field g CamRgbYuv b e kept = refl
+read_field g _ b e kept = refl
 
 -- what is read back asks for no update, unless that field is put
 no_update : (f : Field) (v : ℕ) (r : Register) (b : BoardState) → (place f).register ≡ r → ((place f).role ≡ Update → ⊥)

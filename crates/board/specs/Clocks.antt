@@ -3,7 +3,9 @@ use Rattle.std.specs.Prelude.{ℕ, cond, ◌==◌}
 use Rattle.clock.specs.Divider.{hertz}
 use Rattle.board.specs.Fields.{field}
 use Rattle.board.specs.States.{BoardState, word_in_force}
+use Rattle.board.specs.declared.inspect.ClockFields.{ClockFields}
 use Rattle.board.specs.declared.field.Field.TheVariants.{LcdClkSel, LcdClkmDivNum, LcdClkmDivB, LcdClkmDivA, CamClkSel, CamClkmDivNum, CamClkmDivB, CamClkmDivA}
+use Rattle.board.specs.declared.register.Register.{Register}
 use Rattle.board.specs.declared.register.Register.TheVariants.{LcdClock, CamCtrl}
 use Rattle.board.specs.declared.register.Side.{Side}
 use Rattle.board.specs.declared.register.Side.TheVariants.{Panel, Camera}
@@ -17,13 +19,22 @@ selected k s = cond (k == 1) s.xtal (cond (k == 2) s.pll_d2 (cond (k == 3) s.cry
 abbrev pub clock_of : Sources → ℕ → ℕ → ℕ → ℕ → ℕ
 clock_of s k n b a = hertz (selected k s) (record { div_num = n; div_b = b; div_a = a })
 
+-- the fields of a side's clock setting, which lie in one register
+abbrev pub clock_fields : Side → ClockFields
+clock_fields Panel = record { clk_sel = LcdClkSel; div_num = LcdClkmDivNum; div_b = LcdClkmDivB; div_a = LcdClkmDivA }
+clock_fields Camera = record { clk_sel = CamClkSel; div_num = CamClkmDivNum; div_b = CamClkmDivB; div_a = CamClkmDivA }
+
 abbrev pub clock_in : Side → Sources → ℕ → ℕ
-clock_in Panel s w = clock_of s (field LcdClkSel w) (field LcdClkmDivNum w) (field LcdClkmDivB w) (field LcdClkmDivA w)
-clock_in Camera s w = clock_of s (field CamClkSel w) (field CamClkmDivNum w) (field CamClkmDivB w) (field CamClkmDivA w)
+clock_in x s w =
+    let fields = clock_fields x in
+    clock_of s (field fields.clk_sel w) (field fields.div_num w) (field fields.div_b w) (field fields.div_a w)
+
+abbrev pub clock_register : Side → Register
+clock_register Panel = LcdClock
+clock_register Camera = CamCtrl
 
 abbrev pub clock_word : Side → BoardState → ℕ
-clock_word Panel b = word_in_force LcdClock b
-clock_word Camera b = word_in_force CamCtrl b
+clock_word x b = word_in_force (clock_register x) b
 
 -- the whole hertz of a side's clock
 abbrev pub side_hertz : Side → BoardState → ℕ

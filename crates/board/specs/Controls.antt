@@ -3,9 +3,12 @@ use Rattle.std.specs.Prelude.{ℕ, Bool, true, false, cond, not, ◌&&◌, ◌||
 use Rattle.board.specs.Fields.{flag}
 use Rattle.board.specs.declared.control.Control.{Control}
 use Rattle.board.specs.declared.control.Request.{Request}
+use Rattle.board.specs.declared.field.Field.{Field}
 use Rattle.board.specs.declared.field.Field.TheVariants.{LcdReset, LcdAfifoReset, LcdStart, LcdUpdate, CamReset, CamAfifoReset, CamStart, CamUpdate}
 use Rattle.board.specs.declared.register.Register.{Register}
-use Rattle.board.specs.declared.register.Register.TheVariants.{LcdClock, LcdUser, LcdMisc, LcdCtrl, LcdCtrl1, LcdCtrl2, LcdRgbYuv, LcdDlyMode, LcdDataDoutMode, CamCtrl, CamCtrl1, CamRgbYuv}
+use Rattle.board.specs.declared.register.Register.TheVariants.{LcdUser, LcdMisc, CamCtrl, CamCtrl1}
+use Rattle.board.specs.declared.register.Side.{Side}
+use Rattle.board.specs.declared.register.Side.TheVariants.{Panel, Camera}
 
 abbrev pub request : Bool → Bool → Option Bool → Bool → Request
 request r a s u = record { reset = r; afifo_reset = a; start = s; update = u }
@@ -19,14 +22,7 @@ requested LcdUser w = request (flag LcdReset w) false (Some (flag LcdStart w)) (
 requested LcdMisc w = request false (flag LcdAfifoReset w) None false
 requested CamCtrl w = request false false None (flag CamUpdate w)
 requested CamCtrl1 w = request (flag CamReset w) (flag CamAfifoReset w) (Some (flag CamStart w)) false
-requested LcdClock w = nothing
-requested LcdCtrl w = nothing
-requested LcdCtrl1 w = nothing
-requested LcdCtrl2 w = nothing
-requested LcdRgbYuv w = nothing
-requested LcdDlyMode w = nothing
-requested LcdDataDoutMode w = nothing
-requested CamRgbYuv w = nothing
+requested _ w = nothing
 
 -- a reset that is asked for is marked
 abbrev pub marked : Request → Control → Control
@@ -45,3 +41,8 @@ started (Some false) c = record { start = false; reset = c.reset; afifo_reset = 
 -- the marks first, then start
 abbrev pub controlled : Request → Control → Control
 controlled q c = started q.start (marked q c)
+
+-- the field of a side that begins and ends its runs
+abbrev pub start_field : Side → Field
+start_field Panel = LcdStart
+start_field Camera = CamStart

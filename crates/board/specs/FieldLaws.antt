@@ -1,5 +1,5 @@
 -- What holds of the table of fields, and of a word that a field is put into.
-use Rattle.std.specs.Prelude.{◌≡◌, ℕ, ◌+◌, ◌%◌, ◌^◌, ◌<◌, ◌≤◌, true, ◌⊎◌, ◌≢◌}
+use Rattle.std.specs.Prelude.{◌≡◌, ℕ, ◌+◌, ◌%◌, ◌^◌, ◌<◌, ◌≤◌, ◌⊎◌, ◌≢◌, IsTrue}
 use Rattle.board.specs.Fields.{part, field, put, all_in_order}
 use Rattle.board.specs.Table.{place, registers}
 use Rattle.board.specs.declared.field.Field.{Field}
@@ -11,7 +11,7 @@ Apart low width low' width' = (low + width ≤ low') ⊎ (low' + width' ≤ low)
 
 -- the bits of a field lie within 32 bits, and two fields of one register have none in common
 pub record TableLaw : Type 0 where
-  pub computed : all_in_order registers ≡ true
+  pub computed : IsTrue (all_in_order registers)
   pub not_empty : (f : Field) → 1 ≤ (place f).width
   pub narrow : (f : Field) → (place f).width ≤ 16
   pub within_32 : (f : Field) → (place f).low + (place f).width ≤ 32

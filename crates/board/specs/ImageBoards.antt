@@ -5,10 +5,10 @@ use Rattle.board.specs.States.{BoardState, SpansHold}
 use Rattle.board.specs.declared.image.ImageBoard.{ImageBoard}
 
 abbrev pub words_of : ImageBoard → List ℕ
-words_of b = b.words.now
+words_of b = b.image.words.now
 
 abbrev pub image_board : ImageBoard → BoardState
-image_board b = image b.sources b.words.now
+image_board b = image b.sources b.image.words.now
 
 pub image_spans : (b : ImageBoard) → SpansHold (image_board b)
 image_spans b = record { panel_span = tt; camera_span = tt }

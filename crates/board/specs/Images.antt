@@ -2,15 +2,14 @@
 -- place; 16 to 31 the words in force; 32 and 33 the marks of the panel and the camera, reset in bit 0 and afifo_reset in
 -- bit 1. Words 12 to 15 and 28 to 31 belong to no register.
 use Rattle.std.specs.Prelude.{◌≡◌, ℕ, zero, suc, ◌+◌, ◌-◌, ◌*◌, ◌/◌, ◌%◌, ◌^◌, ◌<◌, ◌≤◌, Bool, true, cond, ◌⊎◌, List, [], ◌∷◌, ◌++◌, map, replicate, ◌==◌, bit_and, slice_index, slice_set}
-use Rattle.board.specs.Controls.{requested, controlled}
+use Rattle.board.specs.Controls.{requested, controlled, start_field}
 use Rattle.board.specs.Fields.{flag, bit, stored, stored_mask}
-use Rattle.board.specs.Registers.{index, side}
+use Rattle.board.specs.Registers.{index, side, first, count}
 use Rattle.board.specs.States.{SideState, BoardState, with_start}
 use Rattle.board.specs.States.Polls.{ending, endless}
-use Rattle.board.specs.Table.{registers}
+use Rattle.board.specs.Table.{place, registers}
 use Rattle.board.specs.Words.{panel_words, camera_words}
 use Rattle.board.specs.declared.control.Control.{Control}
-use Rattle.board.specs.declared.field.Field.TheVariants.{LcdStart, CamStart}
 use Rattle.board.specs.declared.register.Register.{Register}
 use Rattle.board.specs.declared.register.Side.{Side}
 use Rattle.board.specs.declared.register.Side.TheVariants.{Panel, Camera}
@@ -20,10 +19,9 @@ abbrev pub mark_place : Side → ℕ
 mark_place Panel = 32
 mark_place Camera = 33
 
--- where start stands, and its bit there
+-- start stands in the word of its register
 abbrev pub start_in : Side → List ℕ → Bool
-start_in Panel ws = flag LcdStart (slice_index ws 1)
-start_in Camera ws = flag CamStart (slice_index ws 10)
+start_in s ws = flag (start_field s) (slice_index ws (index (place (start_field s)).register))
 
 abbrev pub control_in : Side → List ℕ → Control
 control_in s ws = record {
@@ -56,7 +54,7 @@ image s ws = record {
 
 -- the bits that a read of a register can answer with 1: those that it stores, and start
 abbrev pub read_mask : Register → ℕ
-read_mask r = with_start r true true (stored_mask r)
+read_mask r = with_start r true (stored_mask r)
 
 -- the bits of each word of an image that may be 1; words of no register have all of them
 abbrev pub masks : List ℕ
@@ -76,15 +74,6 @@ cleaned ws = masked masks ws
 abbrev pub marks : Control → ℕ
 marks c = bit c.reset + 2 * bit c.afifo_reset
 
--- the registers of a side: the place of the first, and how many there are
-abbrev pub first : Side → ℕ
-first Panel = 0
-first Camera = 9
-
-abbrev pub count : Side → ℕ
-count Panel = 9
-count Camera = 3
-
 -- n words from a place on put in force, without start
 abbrev pub n_in_force : ℕ → ℕ → List ℕ → List ℕ
 n_in_force zero from ws = ws
@@ -96,7 +85,7 @@ put_in_force s ws = n_in_force (count s) (first s) ws
 
 -- the register's word with start in its place, and the marks of its side
 abbrev pub stored_in : Register → ℕ → Control → List ℕ → List ℕ
-stored_in r w c ws = slice_set (slice_set ws (index r) (with_start r c.start c.start (stored r w))) (mark_place (side r)) (marks c)
+stored_in r w c ws = slice_set (slice_set ws (index r) (with_start r c.start (stored r w))) (mark_place (side r)) (marks c)
 
 abbrev pub updated_in : Bool → Side → List ℕ → List ℕ
 updated_in u s ws = cond u (put_in_force s ws) ws

@@ -1,5 +1,6 @@
 -- The registers: the board's order, the side and the manual's name of each.
-use Rattle.std.specs.Prelude.{ℕ, Bool, List, codes, ◌==◌}
+use Rattle.std.specs.Prelude.{ℕ, Bool, List, take, drop, codes, ◌==◌}
+use Rattle.board.specs.Table.{registers}
 use Rattle.board.specs.declared.register.Register.{Register}
 use Rattle.board.specs.declared.register.Register.TheVariants.{LcdClock, LcdUser, LcdMisc, LcdCtrl, LcdCtrl1, LcdCtrl2, LcdRgbYuv, LcdDlyMode, LcdDataDoutMode, CamCtrl, CamCtrl1, CamRgbYuv}
 use Rattle.board.specs.declared.register.Side.{Side}
@@ -36,6 +37,18 @@ side LcdDataDoutMode = Panel
 side CamCtrl = Camera
 side CamCtrl1 = Camera
 side CamRgbYuv = Camera
+
+-- the registers of a side: the place of the first, how many there are, and which
+abbrev pub first : Side → ℕ
+first Panel = 0
+first Camera = 9
+
+abbrev pub count : Side → ℕ
+count Panel = 9
+count Camera = 3
+
+abbrev pub side_registers : Side → List Register
+side_registers s = take (count s) (drop (first s) registers)
 
 abbrev pub name : Register → List ℕ
 name LcdClock = codes "LCD_CLOCK"

@@ -8,7 +8,7 @@ use Rattle.board.specs.declared.control.Control.{Control}
 use Rattle.board.specs.declared.control.Request.{Request}
 use Rattle.board.specs.declared.field.Field.TheVariants.{LcdStart, CamStart}
 use Rattle.board.specs.declared.register.Register.{Register}
-use Rattle.board.specs.declared.register.Register.TheVariants.{LcdClock, LcdUser, LcdMisc, LcdCtrl, LcdCtrl1, LcdCtrl2, LcdRgbYuv, LcdDlyMode, LcdDataDoutMode, CamCtrl, CamCtrl1, CamRgbYuv}
+use Rattle.board.specs.declared.register.Register.TheVariants.{LcdUser, CamCtrl1}
 use Rattle.board.specs.declared.register.Side.{Side}
 use Rattle.board.specs.declared.register.Side.TheVariants.{Panel, Camera}
 use Rattle.board.specs.declared.sources.Sources.{Sources}
@@ -118,22 +118,13 @@ abbrev pub word_in_force : Register → BoardState → ℕ
 word_in_force r b = stored r (word_on (side r) r b.panel.in_force b.camera.in_force)
 
 -- a word of a register with start in its place, where the register has that field
-abbrev pub with_start : Register → Bool → Bool → ℕ → ℕ
-with_start LcdUser panel camera w = put LcdStart (bit panel) w
-with_start CamCtrl1 panel camera w = put CamStart (bit camera) w
-with_start LcdClock panel camera w = w
-with_start LcdMisc panel camera w = w
-with_start LcdCtrl panel camera w = w
-with_start LcdCtrl1 panel camera w = w
-with_start LcdCtrl2 panel camera w = w
-with_start LcdRgbYuv panel camera w = w
-with_start LcdDlyMode panel camera w = w
-with_start LcdDataDoutMode panel camera w = w
-with_start CamCtrl panel camera w = w
-with_start CamRgbYuv panel camera w = w
+abbrev pub with_start : Register → Bool → ℕ → ℕ
+with_start LcdUser start w = put LcdStart (bit start) w
+with_start CamCtrl1 start w = put CamStart (bit start) w
+with_start _ start w = w
 
 abbrev pub read_on : Register → BoardState → ℕ
-read_on r b = with_start r b.panel.control.start b.camera.control.start (written_word r b)
+read_on r b = with_start r (control_of (side r) b).start (written_word r b)
 
 -- a read answers the written fields and start
 unfoldable pub read : Register → BoardState → ℕ

@@ -21,9 +21,7 @@ panel_word LcdCtrl2 ws = ws.ctrl2
 panel_word LcdRgbYuv ws = ws.rgb_yuv
 panel_word LcdDlyMode ws = ws.dly_mode
 panel_word LcdDataDoutMode ws = ws.data_dout_mode
-panel_word CamCtrl ws = 0
-panel_word CamCtrl1 ws = 0
-panel_word CamRgbYuv ws = 0
+panel_word _ ws = 0
 
 abbrev pub panel_words : (Register → ℕ) → PanelWords
 panel_words at =
@@ -47,15 +45,7 @@ abbrev pub camera_word : Register → CameraWords → ℕ
 camera_word CamCtrl ws = ws.ctrl
 camera_word CamCtrl1 ws = ws.ctrl1
 camera_word CamRgbYuv ws = ws.rgb_yuv
-camera_word LcdClock ws = 0
-camera_word LcdUser ws = 0
-camera_word LcdMisc ws = 0
-camera_word LcdCtrl ws = 0
-camera_word LcdCtrl1 ws = 0
-camera_word LcdCtrl2 ws = 0
-camera_word LcdRgbYuv ws = 0
-camera_word LcdDlyMode ws = 0
-camera_word LcdDataDoutMode ws = 0
+camera_word _ ws = 0
 
 abbrev pub camera_words : (Register → ℕ) → CameraWords
 camera_words at =

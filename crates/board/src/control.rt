@@ -1,12 +1,12 @@
 // What a side keeps beside its settings: whether a run goes on, and which resets are marked.
 ghost use Rattle.std.specs.Prelude.{◌≡◌};
-ghost use Rattle.board.specs.Controls.{requested, marked, begins, controlled};
+ghost use Rattle.board.specs.Controls.{requested, marked, begins, controlled, start_field};
 ghost use Rattle.board.specs.Fields.{flag};
-ghost use Rattle.board.specs.States.{left_after};
+ghost use Rattle.board.specs.States.{left_after, with_start};
 ghost use Rattle.board.specs.States.Polls.{ending};
 
 use crate::field::Field;
-use crate::register::Register;
+use crate::register::{Register, Side};
 
 /// Whether a run goes on on a side, and which of the two resets were marked since the last run began.
 #[derive(Clone, Copy)]
@@ -29,70 +29,67 @@ pub struct Request {
 }
 
 impl Request {
+    // A word that asks nothing.
+    const NONE: Request = Request {
+        reset: false,
+        afifo_reset: false,
+        start: None,
+        update: false,
+    };
+
     /// What a word asks of its side where it is written to the register.
     pub fn of(register: Register, word: u32) -> Request
         ensures { result ≡ requested register word }
     {
-        let none = Request {
-            reset: false,
-            afifo_reset: false,
-            start: None,
-            update: false,
-        };
         match register {
             Register::LcdUser => Request {
                 reset: flag(Field::LcdReset, word),
-                afifo_reset: false,
                 start: Some(flag(Field::LcdStart, word)),
                 update: flag(Field::LcdUpdate, word),
+                ..Request::NONE
             },
             Register::LcdMisc => Request {
-                reset: false,
                 afifo_reset: flag(Field::LcdAfifoReset, word),
-                start: None,
-                update: false,
+                ..Request::NONE
             },
             Register::CamCtrl => Request {
-                reset: false,
-                afifo_reset: false,
-                start: None,
                 update: flag(Field::CamUpdate, word),
+                ..Request::NONE
             },
             Register::CamCtrl1 => Request {
                 reset: flag(Field::CamReset, word),
                 afifo_reset: flag(Field::CamAfifoReset, word),
                 start: Some(flag(Field::CamStart, word)),
-                update: false,
+                ..Request::NONE
             },
-            _ => none,
+            _ => Request::NONE,
         }
     }
 }
 
 impl Control {
+    // No run and no mark.
+    pub(crate) const IDLE: Control = Control {
+        start: false,
+        reset: false,
+        afifo_reset: false,
+    };
+
     /// What the control is after a request: resets are marked first, then start is written.
     pub fn after(self, request: Request) -> Control
         ensures { result ≡ controlled request self }
     {
         let marked = self.marked(request);
         match request.start {
-            None => marked,
-            Some(true) => {
-                if marked.begins() {
-                    Control {
-                        start: true,
-                        reset: false,
-                        afifo_reset: false,
-                    }
-                } else {
-                    marked
-                }
-            }
+            Some(true) if marked.begins() => Control {
+                start: true,
+                ..Control::IDLE
+            },
             Some(false) => Control {
                 start: false,
-                reset: marked.reset,
-                afifo_reset: marked.afifo_reset,
+                ..marked
             },
+            _ => marked,
         }
     }
 
@@ -102,15 +99,9 @@ impl Control {
         ensures { ending result ≡ left_after request.start (marked request self) (ending span) (ending left) }
     {
         match request.start {
-            None => left,
-            Some(true) => {
-                if self.marked(request).begins() {
-                    span
-                } else {
-                    left
-                }
-            }
+            Some(true) if self.marked(request).begins() => span,
             Some(false) => 0,
+            _ => left,
         }
     }
 
@@ -119,9 +110,9 @@ impl Control {
         ensures { result ≡ marked request self }
     {
         Control {
-            start: self.start,
             reset: self.reset | request.reset,
             afifo_reset: self.afifo_reset | request.afifo_reset,
+            ..self
         }
     }
 
@@ -133,8 +124,30 @@ impl Control {
     }
 }
 
-// A field of one bit.
-fn flag(field: Field, word: u32) -> bool
+/// A word of a register with start in its place, where the register has that field.
+pub(crate) fn with_start(register: Register, start: bool, word: u32) -> u32
+    ensures { result ≡ with_start register start word }
+{
+    match register {
+        Register::LcdUser | Register::CamCtrl1 => {
+            start_field(register.side()).put(word, start as u32)
+        }
+        _ => word,
+    }
+}
+
+/// The field of a side that begins and ends its runs.
+pub(crate) fn start_field(side: Side) -> Field
+    ensures { result ≡ start_field side }
+{
+    match side {
+        Side::Panel => Field::LcdStart,
+        Side::Camera => Field::CamStart,
+    }
+}
+
+/// A field of one bit.
+pub(crate) fn flag(field: Field, word: u32) -> bool
     ensures { result ≡ flag «field» word }
 {
     field.get(word) == 1

@@ -6,7 +6,7 @@ ghost use Rattle.board.specs.Errors.{number};
 #[derive(Clone, Copy, PartialEq, Eq, Debug)]
 pub enum ImageError {
     /// There are not 34 of them.
-    WrongSize,
+    WrongSize = 10,
 }
 
 impl ImageError {
@@ -14,8 +14,6 @@ impl ImageError {
     pub fn number(self) -> u32
         ensures { result ≡ number self }
     {
-        match self {
-            ImageError::WrongSize => 10,
-        }
+        self as u32
     }
 }

@@ -137,7 +137,7 @@ pub struct Place {
     pub register: Register,
     /// Its lowest bit.
     pub low: u32,
-    /// How many bits it has, 1 to 31.
+    /// How many bits it has, 1 to 16.
     pub width: u32,
     pub role: Role,
 }
@@ -272,10 +272,7 @@ impl Field {
         ensures cut { result < 2 ^ (place self).width }
         ensures law { TableLaw }
     {
-        table_holds();
-        let place = self.place();
-        lies_in_a_word(self);
-        part(word, place.low, place.width)
+        self.bits().part(word)
     }
 
     /// A word with the field put to a value, which is cut to the field.
@@ -283,58 +280,62 @@ impl Field {
         ensures value { result ≡ put self value word }
         ensures law { PutLaw self value word }
     {
+        self.bits().put(word, value)
+    }
+
+    fn bits(self) -> Bits
+        ensures low { result.low ≡ (place self).low }
+        ensures width { result.width ≡ (place self).width }
+    {
         let place = self.place();
-        lies_in_a_word(self);
-        stays_a_word(self, value, word);
-        put_part(word, place.low, place.width, value)
+        Bits {
+            low: place.low,
+            width: place.width,
+        }
     }
 }
 
-// The bits of a word from `low` on, `width` of them.
-fn part(word: u32, low: u32, width: u32) -> u32
-    requires { (low + width ≤ 32) × ((1 ≤ width) × (width ≤ 16)) }
-    ensures value { result ≡ part low width word }
-    ensures cut { result < 2 ^ width }
-{
-    cut(word >> low, width)
+// Some bits of a word: `width` of them, from the bit `low` on.
+#[derive(Clone, Copy)]
+struct Bits {
+    low: u32,
+    width: u32,
+    ghost within_32: { low + width ≤ 32 },
+    ghost not_empty: { 1 ≤ width },
+    ghost narrow: { width ≤ 16 },
 }
 
-// The old value of these bits is taken out, and the new one put in.
-fn put_part(word: u32, low: u32, width: u32, value: u32) -> u32
-    requires { (low + width ≤ 32) × ((1 ≤ width) × ((width ≤ 16) × (put_part low width value word < 2 ^ 32))) }
-    ensures { result ≡ put_part low width value word }
-{
-    let old = raised(part(word, low, width), low, width);
-    let new = raised(cut(value, width), low, width);
-    word - old + new
+impl Bits {
+    // The number that the bits of a word write.
+    fn part(self, word: u32) -> u32
+        ensures value { result ≡ part self.low self.width word }
+        ensures cut { result < 2 ^ self.width }
+    {
+        self.cut(word >> self.low)
+    }
+
+    // The old value of the bits is taken out of a word, and the new one put in.
+    fn put(self, word: u32, value: u32) -> u32
+        ensures { result ≡ put_part self.low self.width value word }
+    {
+        let old = self.raised(self.part(word));
+        let new = self.raised(self.cut(value));
+        word - old + new
+    }
+
+    // The lowest bits of a value, as many as these are.
+    fn cut(self, value: u32) -> u32
+        ensures value { result ≡ value % 2 ^ self.width }
+        ensures cut { result < 2 ^ self.width }
+    {
+        value & ((1 << self.width) - 1)
+    }
+
+    // A value of these bits at their place.
+    fn raised(self, value: u32) -> u32
+        requires { value < 2 ^ self.width }
+        ensures { result ≡ value * 2 ^ self.low }
+    {
+        value << self.low
+    }
 }
-
-// The lowest bits of a value, `width` of them.
-fn cut(value: u32, width: u32) -> u32
-    requires { width ≤ 16 }
-    ensures value { result ≡ value % 2 ^ width }
-    ensures cut { result < 2 ^ width }
-{
-    value & ((1 << width) - 1)
-}
-
-// A value of `width` bits at the bit `low`.
-fn raised(value: u32, low: u32, width: u32) -> u32
-    requires { (low + width ≤ 32) × ((1 ≤ width) × (value < 2 ^ width)) }
-    ensures { result ≡ value * 2 ^ low }
-{
-    value << low
-}
-
-// The table was computed: each register's fields lie within 32 bits and do not overlap.
-fn table_holds()
-    ensures { TableLaw }
-{}
-
-fn lies_in_a_word(f: Field)
-    ensures { ((place f).low + (place f).width ≤ 32) × ((1 ≤ (place f).width) × ((place f).width ≤ 16)) }
-{}
-
-fn stays_a_word(f: Field, value: u32, word: u32)
-    ensures { (PutLaw f value word) × (put f value word < 2 ^ 32) }
-{}

@@ -1,6 +1,6 @@
 // What can be seen of a board that lies in memory, and no driver can ask of the module itself.
 ghost use Rattle.std.specs.Prelude.{◌≡◌};
-ghost use Rattle.board.specs.Clocks.{clock_in, clock_word, side_hertz, selected};
+ghost use Rattle.board.specs.Clocks.{clock_fields, clock_in, clock_register, side_hertz, selected};
 ghost use Rattle.board.specs.States.{word_in_force, control_of};
 
 use crate::control::Control;
@@ -25,36 +25,60 @@ pub trait Inspect: Board {
 pub fn clock_in_force<B: Inspect>(board: &B, side: Side) -> u32
     ensures { result ≡ side_hertz side (B.Board.meaning board.now) }
 {
-    let sources = board.sources();
-    match side {
-        Side::Panel => hertz_in(sources, Side::Panel, board.in_force(Register::LcdClock)),
-        Side::Camera => hertz_in(sources, Side::Camera, board.in_force(Register::CamCtrl)),
-    }
+    hertz_in(board.sources(), side, board.in_force(clock_register(side)))
 }
 
 // The whole hertz that the clock settings in a word make.
 fn hertz_in(sources: Sources, side: Side, word: u32) -> u32
     ensures { result ≡ clock_in side sources word }
 {
-    let (source, divider) = match side {
-        Side::Panel => (
-            selected(sources, Field::LcdClkSel.get(word)),
-            ClockDivider {
-                div_num: Field::LcdClkmDivNum.get(word) as u8,
-                div_b: Field::LcdClkmDivB.get(word) as u8,
-                div_a: Field::LcdClkmDivA.get(word) as u8,
-            },
-        ),
-        Side::Camera => (
-            selected(sources, Field::CamClkSel.get(word)),
-            ClockDivider {
-                div_num: Field::CamClkmDivNum.get(word) as u8,
-                div_b: Field::CamClkmDivB.get(word) as u8,
-                div_a: Field::CamClkmDivA.get(word) as u8,
-            },
-        ),
+    let fields = ClockFields::of(side);
+    let divider = ClockDivider {
+        div_num: fields.div_num.get(word) as u8,
+        div_b: fields.div_b.get(word) as u8,
+        div_a: fields.div_a.get(word) as u8,
     };
-    calculate_output_frequency(source, &divider)
+    calculate_output_frequency(selected(sources, fields.clk_sel.get(word)), &divider)
+}
+
+// The register that has the clock settings of a side.
+fn clock_register(side: Side) -> Register
+    ensures { result ≡ clock_register side }
+{
+    match side {
+        Side::Panel => Register::LcdClock,
+        Side::Camera => Register::CamCtrl,
+    }
+}
+
+// The fields of a side's clock setting.
+#[derive(Clone, Copy)]
+struct ClockFields {
+    clk_sel: Field,
+    div_num: Field,
+    div_b: Field,
+    div_a: Field,
+}
+
+impl ClockFields {
+    fn of(side: Side) -> ClockFields
+        ensures { result ≡ clock_fields side }
+    {
+        match side {
+            Side::Panel => ClockFields {
+                clk_sel: Field::LcdClkSel,
+                div_num: Field::LcdClkmDivNum,
+                div_b: Field::LcdClkmDivB,
+                div_a: Field::LcdClkmDivA,
+            },
+            Side::Camera => ClockFields {
+                clk_sel: Field::CamClkSel,
+                div_num: Field::CamClkmDivNum,
+                div_b: Field::CamClkmDivB,
+                div_a: Field::CamClkmDivA,
+            },
+        }
+    }
 }
 
 // The source that clk_sel selects; 0 Hz for none.

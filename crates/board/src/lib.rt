@@ -1,7 +1,4 @@
 // The registers of the LCD_CAM module, the board that has them, and two boards to run on.
-//
-// Some private functions here have an empty body, as `table_holds` in field.rt: the contract of such a function is a
-// law about the definitions in specs/, and its caller learns the law by the call, which costs no instruction.
 #![tactic(auto)]
 
 pub mod control;

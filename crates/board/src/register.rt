@@ -1,6 +1,6 @@
 // The registers, and the side of the module that each belongs to.
 ghost use Rattle.std.specs.Prelude.{◌≡◌};
-ghost use Rattle.board.specs.Registers.{index, side, name};
+ghost use Rattle.board.specs.Registers.{index, side, side_registers, name};
 ghost use Rattle.board.specs.Fields.{stored_mask, stored};
 
 /// A side of the LCD_CAM module.
@@ -45,25 +45,24 @@ pub const REGISTERS: [Register; 12] = [
     Register::CamRgbYuv,
 ];
 
+impl Side {
+    /// The registers of the side, in the board's order.
+    pub(crate) fn registers(self) -> &'static [Register]
+        ensures { result.now ≡ side_registers self }
+    {
+        match self {
+            Side::Panel => &REGISTERS[..9],
+            Side::Camera => &REGISTERS[9..],
+        }
+    }
+}
+
 impl Register {
     /// The place in the board's order, from 0.
     pub fn index(self) -> usize
         ensures { result ≡ index self }
     {
-        match self {
-            Register::LcdClock => 0,
-            Register::LcdUser => 1,
-            Register::LcdMisc => 2,
-            Register::LcdCtrl => 3,
-            Register::LcdCtrl1 => 4,
-            Register::LcdCtrl2 => 5,
-            Register::LcdRgbYuv => 6,
-            Register::LcdDlyMode => 7,
-            Register::LcdDataDoutMode => 8,
-            Register::CamCtrl => 9,
-            Register::CamCtrl1 => 10,
-            Register::CamRgbYuv => 11,
-        }
+        self as usize
     }
 
     /// The side that the register belongs to.
@@ -122,9 +121,4 @@ impl Register {
     {
         word & self.stored_mask()
     }
-
-    /// What was stored of a word is stored of it again.
-    pub(crate) fn stored_twice(self, word: u32)
-        ensures { stored self (stored self word) ≡ stored self word }
-    {}
 }

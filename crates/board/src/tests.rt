@@ -1,8 +1,7 @@
 // Boards on examples.
 use crate::error::ImageError;
 use crate::field::Field;
-use crate::image::ImageBoard;
-use crate::image::acts::check_image;
+use crate::image::{ImageBoard, check_image};
 use crate::inspect::{Inspect, clock_in_force};
 use crate::interface::Board;
 use crate::register::{Register, Side};
