@@ -81,7 +81,7 @@ impl ClockFields {
     }
 }
 
-// The source that clk_sel selects; 0 Hz for none.
+// The source that clk_sel selects; 0 Hz for none, as the register counts and the rules say.
 fn selected(sources: Sources, clk_sel: u32) -> u32
     ensures { result ≡ selected clk_sel sources }
 {

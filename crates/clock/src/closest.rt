@@ -11,7 +11,8 @@ use crate::fraction::{Fraction, hcf};
 #[derive(Clone, Copy, PartialEq, Eq, Debug)]
 pub struct ClosestDivider {
     pub divider: ClockDivider,
-    /// The place from 1; 0 where there is no remainder, or the source is not fast enough to be divided.
+    /// The place from 1; 0 where there is no remainder, or the source is not fast enough to be divided. A number and no
+    /// `Option`: 0 is what a job script's answer tells.
     pub count: u32,
 }
 

@@ -1,5 +1,5 @@
 // A walk through the Farey sequence of order 63: the fractions from 0 to 1 with denominators up to 63, in order.
-ghost use Rattle.std.specs.Prelude.{◌≡◌, ◌+◌, ◌-◌, ◌≤◌, true, [], is_some, if◌then◌else◌, MatchBool};
+ghost use Rattle.std.specs.Prelude.{◌≡◌, ◌+◌, ◌-◌, ◌≤◌, [], is_some, IsTrue, if◌then◌else◌, MatchBool};
 ghost use Rattle.clock.specs.Walk.{sound, GoesOn};
 
 use crate::fraction::{Fraction, Neighbours};
@@ -14,7 +14,7 @@ pub struct FareySequence {
     /// How many terms were given.
     pub place: u32,
     ghost within: { place ≤ 1229 },
-    ghost on_the_walk: { sound (1229 - place) terms ≡ true },
+    ghost on_the_walk: { IsTrue (sound (1229 - place) terms) },
 }
 
 impl Iterator for FareySequence {

@@ -1,4 +1,4 @@
-// The search of the crate `clock` for callers in C and Rust, as a static library.
+// The search of the crate `clock` for callers in C and Rust, as a static library, which a crate that others use cannot be.
 #![tactic(auto)]
 
 ghost use Rattle.std.specs.Prelude.{◌≡◌};

@@ -13,7 +13,7 @@ pub enum Keyword {
     Unknown,
 }
 
-/// The kind of line that a first word begins.
+/// The kind of line that a first word begins. No `From`: many words are of one kind.
 pub fn keyword_of(word: &[u8]) -> Keyword
     ensures { result ≡ keyword word.now }
 {
@@ -24,7 +24,7 @@ pub fn keyword_of(word: &[u8]) -> Keyword
     }
 }
 
-/// The register among some that a word names.
+/// The register among some that a word names. No `TryFrom`, here and below: the types are of other crates.
 pub fn register_named(registers: &[Register], word: &[u8]) -> Option<Register>
     ensures { result ≡ named registers.now word.now }
 {

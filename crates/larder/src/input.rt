@@ -5,7 +5,7 @@ ghost use Rattle.larder.specs.Filled.{Filled, Gives};
 use std::io;
 use std::io::{BufRead, ErrorKind};
 
-/// What came of an attempt to read a line.
+/// What came of an attempt to read a line: one of three things, none with a value, so no `Option` or `Result`.
 pub enum Line {
     /// The buffer holds the line.
     Whole,

@@ -58,6 +58,7 @@ fn answer<R: Read + Drop>(rt: &HostRuntime, script: R) -> io::Result<()> {
     let mut script = BufReader::new(heap, script)?;
     let mut out = BufWriter::new(heap, rt.stdout())?;
     let mut line = Vec::with_capacity(heap, ROOM)?;
+    // A loop until the input ends: one that counts nothing would take a handle to wait, which no function here may.
     for _ in 0..u64::MAX {
         match next_line(&mut script, &mut line)? {
             Line::Whole => print_reply(&mut out, heap, line.as_slice())?,

@@ -1,4 +1,5 @@
-// Where the walk begins.
+// Where the walk begins. It is a file of its own, since a free function's clauses may name `ahead` in no file that
+// declares the struct which `ahead` takes.
 ghost use Rattle.std.specs.Prelude.{◌≡◌};
 ghost use Rattle.clock.specs.Farey.{f63};
 ghost use Rattle.clock.specs.Laws.{AllSmallFractions};
