@@ -1,26 +1,13 @@
 -- Descriptors one by one: a load written into them, and read back.
-use Rattle.std.proofs.Common.{◌≡◌, ℕ, suc, ◌+◌, ◌-◌, ◌<◌, ◌≤◌, ◌≢◌, List, [], ◌∷◌, length, get_or, drop, set, sym, ap, ◌∙◌, ⊎_elim, add-zero, zero-add, arith, below_more}
-use native.Mathlib.Nat.{sub-zero}
-use Rattle.std.proofs.lemmas.List.{get_or-set_same, get_or-set_other, drop-set-lt, drop-drop, at_drop_more, at_drop_all}
-use Rattle.std.proofs.lemmas.Bool.{eq-eqb, ne_eqb, cases_eq, lt-ltb, le-ltb, cases_lt}
-use Rattle.dma.specs.Chains.{linked, unlinked, chain_count, chain_owned, Chained, OneByOne, ReadsBack}
+use Rattle.std.proofs.Common.{◌≡◌, ℕ, ◌+◌, ◌-◌, ◌≤◌, List, [], ◌∷◌, length, min, not, refl, arith}
+use Rattle.std.proofs.lemmas.List.{at_drop_more, at_drop_all}
+use Rattle.std.proofs.lemmas.List.Sums.{prefix_len_is, prefix_len_passes, prefix_len_stops}
+use Rattle.std.specs.List.{prefix_len}
+use Rattle.std.proofs.lemmas.Bool.Decides.{nat_tests}
+use Rattle.dma.specs.Chains.{is_dma, unlinked, chain_count, chain_owned, Chained, OneByOne, ReadsBack}
 use Rattle.dma.specs.declared.table.Descriptor.{Descriptor}
 
--- one more descriptor of a load is written
-module _ (count owned : ℕ) (before ds : List Descriptor) (d : Descriptor) (i : ℕ) where
-  pub chain_more : i < length ds → d ≡ linked count owned i →
-      ((k : ℕ) → k < i → get_or ds k unlinked ≡ linked count owned k) →
-      (k : ℕ) → k < i + 1 → get_or (set ds i d) k unlinked ≡ linked count owned k
-  chain_more lt e so_far =
-      below_more _ _
-      (λ k h. let ne : k ≢ i = omega arith in get_or-set_other ds i k d unlinked ne ∙ so_far k h)
-      (get_or-set_same ds i d unlinked lt ∙ e)
-
-  pub others_more : drop i ds ≡ drop i before → drop (i + 1) (set ds i d) ≡ drop (i + 1) before
-  others_more e =
-      drop-set-lt (i + 1) ds i d (omega arith)
-      ∙ sym (drop-drop 1 i ds) ∙ ap (drop 1) e ∙ drop-drop 1 i before
-
+-- a chain is read from the first descriptor on
 pub one_by_one : (ds : List Descriptor) → OneByOne ds
 one_by_one ds =
     record {
@@ -30,56 +17,39 @@ one_by_one ds =
       none_owned = λ i le. at_drop_all chain_owned ds i le;
     }
 
--- the rest of a chain, of which i descriptors come before
-module _ (count owned : ℕ) where
-  abbrev Rest : ℕ → List Descriptor → Type 0
-  Rest i ds = (k : ℕ) → i + k < count → get_or ds k unlinked ≡ linked count owned (i + k)
+-- a chain has one descriptor more than come before the first that is last, if there are so many
+pub chain_counted : (ds : List Descriptor) →
+    chain_count ds ≡ min (prefix_len (λ d. not d.last) ds + 1) (length ds)
+chain_counted [] = refl
+chain_counted (d ∷ ds) = let rest = chain_counted ds in grind (arith, nat_tests)
 
-  rest_head : (i : ℕ) (d : Descriptor) (ds : List Descriptor) → Rest i (d ∷ ds) → i < count → d ≡ linked count owned i
-  rest_head i d ds rest lt = rw add-zero at (rest 0 (omega arith))
+-- of a chain those belong to the DMA that are its own from the first on
+pub chain_owned_first : (ds : List Descriptor) →
+    chain_owned ds ≡ min (prefix_len (λ d. is_dma d.owner) ds) (chain_count ds)
+chain_owned_first [] = refl
+chain_owned_first (d ∷ ds) = let rest = chain_owned_first ds in grind (arith, nat_tests)
 
-  rest_tail : (i : ℕ) (d : Descriptor) (ds : List Descriptor) → Rest i (d ∷ ds) → Rest (i + 1) ds
-  rest_tail i d ds rest k lt =
-      let e : i + suc k ≡ (i + 1) + k = omega arith in rw e at (rest (suc k) (omega arith))
+-- a load that stands in the first descriptors is read from them
+module _ (count owned : ℕ) (ds : List Descriptor) (chain : Chained count owned ds) (some : 1 ≤ count) (fits : count ≤ length ds) where
+  one_is_last : prefix_len (λ d. not d.last) ds ≡ count - 1
+  one_is_last =
+      prefix_len_is (λ d. not d.last) ds (count - 1) unlinked (omega arith)
+      (λ k lt. let here = chain k (omega arith) in grind (arith, nat_tests))
+      (λ lt. let here = chain (count - 1) (omega arith) in grind (arith, nat_tests))
 
-  from_0 : (ds : List Descriptor) → Chained count owned ds → Rest 0 ds
-  from_0 ds chain k lt = rw zero-add (chain k (omega arith))
+  some_are_owned : owned ≤ count → min (prefix_len (λ d. is_dma d.owner) ds) count ≡ owned
+  some_are_owned within =
+      let passes = prefix_len_passes (λ d. is_dma d.owner) ds owned unlinked in
+      let stops = prefix_len_stops (λ d. is_dma d.owner) ds unlinked in
+      let at_owned = chain owned in
+      let at_stop = chain (prefix_len (λ d. is_dma d.owner) ds) in
+      grind (arith, nat_tests)
 
-  rest_count : (i : ℕ) (ds : List Descriptor) → Rest i ds → i < count → count ≤ i + length ds →
-      chain_count ds ≡ count - i
-  rest_count i [] rest lt le = omega arith
-  rest_count i (d ∷ ds) rest lt le =
-      rw (rest_head i d ds rest lt)
-      (⊎_elim
-      (λ (e : i + 1 ≡ count). rw (eq-eqb (i + 1) count e) (omega arith))
-      (λ (ne : i + 1 ≡ count → ⊥).
-      let more : i + 1 < count = omega (arith, ne) in
-      let tail = rest_count (i + 1) ds (rest_tail i d ds rest) more (omega arith) in
-      rw (ne_eqb (i + 1) count ne) (omega arith))
-      (cases_eq (i + 1) count))
+  pub read_count : chain_count ds ≡ count
+  read_count = omega (arith, chain_counted ds, one_is_last)
 
-  rest_owned : (i : ℕ) (ds : List Descriptor) → Rest i ds → i < count → count ≤ i + length ds → owned ≤ count →
-      chain_owned ds ≡ owned - i
-  rest_owned i [] rest lt le within = omega arith
-  rest_owned i (d ∷ ds) rest lt le within =
-      rw (rest_head i d ds rest lt)
-      (⊎_elim
-      (λ (o : i < owned).
-      rw (lt-ltb i owned o)
-      (⊎_elim
-      (λ (e : i + 1 ≡ count). rw (eq-eqb (i + 1) count e) (omega arith))
-      (λ (ne : i + 1 ≡ count → ⊥).
-      let more : i + 1 < count = omega (arith, ne) in
-      let tail = rest_owned (i + 1) ds (rest_tail i d ds rest) more (omega arith) within in
-      rw (ne_eqb (i + 1) count ne) (omega arith))
-      (cases_eq (i + 1) count)))
-      (λ (o : owned ≤ i). rw (le-ltb i owned o) (omega arith))
-      (cases_lt i owned))
+  pub read_owned : owned ≤ count → chain_owned ds ≡ owned
+  read_owned within = omega (arith, chain_owned_first ds, read_count, some_are_owned within)
 
-  pub reads_back : (ds : List Descriptor) → ReadsBack count owned ds
-  reads_back ds =
-      record {
-        counted = λ chain some fits. rest_count 0 ds (from_0 ds chain) some (simp zero-add fits) ∙ sub-zero count;
-        owned_read = λ chain some fits within.
-            rest_owned 0 ds (from_0 ds chain) some (simp zero-add fits) within ∙ sub-zero owned;
-      }
+pub reads_back : (count owned : ℕ) (ds : List Descriptor) → ReadsBack count owned ds
+reads_back count owned ds = record { counted = read_count count owned ds; owned_read = read_owned count owned ds }

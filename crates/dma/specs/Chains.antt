@@ -1,5 +1,5 @@
 -- What a list of descriptors says: the chain that it holds, and a load written into it.
-use Rattle.std.specs.Prelude.{◌≡◌, ℕ, ◌+◌, ◌<◌, ◌≤◌, true, cond, List, [], ◌∷◌, length, get_or, drop, ◌==◌, nat_lt, slice_index_or}
+use Rattle.std.specs.Prelude.{◌≡◌, ℕ, ◌+◌, ◌<◌, ◌≤◌, Bool, true, false, cond, List, [], ◌∷◌, length, get_or, drop, ◌==◌, nat_lt, slice_index_or}
 use Rattle.dma.specs.declared.table.Descriptor.{Descriptor}
 use Rattle.dma.specs.declared.table.Owner.{Owner}
 use Rattle.dma.specs.declared.table.Owner.TheVariants.{Cpu, Dma}
@@ -8,6 +8,10 @@ use Rattle.dma.specs.declared.table.Owner.TheVariants.{Cpu, Dma}
 abbrev pub chain_count : List Descriptor → ℕ
 chain_count [] = 0
 chain_count (d ∷ ds) = cond d.last 1 (1 + chain_count ds)
+
+abbrev pub is_dma : Owner → Bool
+is_dma Cpu = false
+is_dma Dma = true
 
 -- n where the DMA is the owner, else 0
 abbrev pub if_owned : Owner → ℕ → ℕ

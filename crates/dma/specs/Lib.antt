@@ -2,6 +2,8 @@ pub mod Answers
 pub mod States
 pub mod Requests
 pub mod Laws
+pub mod Stores
+pub mod Phased
 pub mod Counting
 pub mod Chains
 pub mod Table

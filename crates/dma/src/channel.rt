@@ -2,7 +2,7 @@
 ghost use Rattle.std.specs.Prelude.{◌≡◌, ◌≤◌};
 ghost use Rattle.dma.specs.Answers.{answer_of};
 ghost use Rattle.dma.specs.Laws.{PrepareLaw, StartLaw, StopLaw};
-ghost use Rattle.dma.specs.Requests.{answer, after, prepare_answer, ready_answer};
+ghost use Rattle.dma.specs.Requests.{answer, after};
 ghost use Rattle.dma.specs.States.{ChannelState};
 
 use crate::error::DmaError;
@@ -66,27 +66,4 @@ pub trait Channel {
     {
         self.handle(Request::Stop)
     }
-}
-
-// Whether a load can be taken: it has a descriptor, and no more than the limit.
-pub(crate) fn check_count(load: Load, limit: u32) -> Result<(), DmaError>
-    ensures { answer_of result ≡ prepare_answer load.count limit }
-{
-    if load.count == 0 {
-        return Err(DmaError::BufferTooSmall);
-    }
-    if load.count > limit {
-        return Err(DmaError::OutOfDescriptors);
-    }
-    Ok(())
-}
-
-// Whether the DMA can begin with a load: it owns the first descriptor.
-pub(crate) fn check_owned(load: Load) -> Result<(), DmaError>
-    ensures { answer_of result ≡ ready_answer load.owned }
-{
-    if load.owned == 0 {
-        return Err(DmaError::DescriptorError);
-    }
-    Ok(())
 }

@@ -1,79 +1,54 @@
 // A channel that only counts.
-ghost use Rattle.std.specs.Prelude.{◌≡◌, ◌≤◌, min, max, false};
-ghost use Rattle.dma.specs.Counting.{counting_state};
-ghost use Rattle.dma.specs.States.Phase.{idle};
+ghost use Rattle.std.specs.Prelude.{◌≡◌, ◌≤◌, min, max};
+ghost use Rattle.dma.specs.States.{idle_channel};
 
-use crate::channel::{Channel, Request, check_count, check_owned};
-use crate::error::DmaError;
 use crate::load::Load;
+use crate::phased::PhasedChannel;
+use crate::store::LoadStore;
 
 /// A channel that holds no descriptors, and only the load.
+pub type CountingChannel = PhasedChannel<CountingStore>;
+
+/// A limit, and the load that was kept last.
 #[derive(Drop)]
-pub struct CountingChannel {
+pub struct CountingStore {
     limit: u32,
-    error: bool,
-    phase: Phase,
+    load: Load,
     ghost holds_one: { 1 ≤ limit },
 }
 
 impl CountingChannel {
+    ghost use Rattle.dma.specs.Counting.{counting_channel};
+
     /// An idle channel with a limit from 1 to 65,535, the nearer end for any other.
     pub fn new(limit: u32) -> CountingChannel
-        ensures { counting_state result.limit result.error result.phase ≡ record { limit = max 1 (min limit 65535); error = false; phase = idle } }
+        ensures { counting_channel result ≡ idle_channel (max 1 (min limit 65535)) }
     {
-        CountingChannel {
+        PhasedChannel::over(CountingStore {
             limit: limit.clamp(1, 65_535),
-            error: false,
-            phase: Phase::Idle,
-        }
+            load: Load { count: 0, owned: 0 },
+        })
     }
 }
 
-impl Channel for CountingChannel {
-    ghost meaning = { λ c. counting_state c.limit c.error c.phase };
+impl LoadStore for CountingStore {
+    ghost use Rattle.dma.specs.Counting.{counting_store, counting_least, HoldsLoad};
 
-    ghost least = { λ c. c.holds_one };
+    ghost meaning = { counting_store };
 
-    fn handle(&mut self, request: Request) -> Result<(), DmaError> {
-        match (self.phase, request) {
-            (_, Request::Prepare(load)) => {
-                self.phase = Phase::Idle;
-                check_count(load, self.limit)?;
-                self.phase = Phase::Ready(load);
-                self.error = false;
-                Ok(())
-            }
-            (Phase::Ready(load), Request::Start) => {
-                self.phase = Phase::Running(load);
-                if load.owned < load.count {
-                    self.error = true;
-                }
-                check_owned(load)
-            }
-            (_, Request::Start) => {
-                self.phase = Phase::Idle;
-                Err(DmaError::DescriptorError)
-            }
-            (_, Request::Stop) => {
-                self.phase = Phase::Idle;
-                Ok(())
-            }
-        }
-    }
+    ghost keeps = { HoldsLoad };
 
-    fn has_error(&self) -> bool {
-        self.error
-    }
+    ghost least = { counting_least };
 
     fn limit(&self) -> u32 {
         self.limit
     }
-}
 
-// What a counting channel is doing.
-#[derive(Clone, Copy)]
-enum Phase {
-    Idle,
-    Ready(Load),
-    Running(Load),
+    fn load(&self) -> Load {
+        self.load
+    }
+
+    fn keep(&mut self, load: Load) {
+        self.load = load;
+    }
 }

@@ -6,11 +6,11 @@ ghost use Rattle.dma.specs.Answers.{number};
 #[derive(Clone, Copy, PartialEq, Eq, Debug)]
 pub enum DmaError {
     /// The load has no descriptor.
-    BufferTooSmall,
+    BufferTooSmall = 5,
     /// The load has more descriptors than the channel can hold.
-    OutOfDescriptors,
+    OutOfDescriptors = 6,
     /// The first descriptor is not the DMA's, or there is nothing to start.
-    DescriptorError,
+    DescriptorError = 7,
 }
 
 impl DmaError {
@@ -18,10 +18,6 @@ impl DmaError {
     pub fn number(self) -> u32
         ensures { result ≡ number self }
     {
-        match self {
-            DmaError::BufferTooSmall => 5,
-            DmaError::OutOfDescriptors => 6,
-            DmaError::DescriptorError => 7,
-        }
+        self as u32
     }
 }

@@ -1,6 +1,6 @@
 // A frame: bytes that are lent for reading.
 ghost use Rattle.std.specs.Prelude.{◌≡◌, false, length};
-ghost use Rattle.dma.specs.Frames.{frame_count, FrameLaw};
+ghost use Rattle.dma.specs.Frames.{frame_count, frame_opened, frame_closed, FrameLaw};
 
 use crate::buffer::{DmaBuffer, Tagged, View};
 use crate::load::Load;
@@ -27,7 +27,7 @@ impl<'a> Tagged for FrameBuffer<'a> {
 }
 
 impl<'a> Tagged for FrameView<'a> {
-    ghost tag = { λ v. v.frame.tag };
+    ghost tag = { λ v. (frame_closed v).tag };
 
     fn tag(&self) -> u32 {
         self.frame.tag
@@ -53,9 +53,9 @@ impl<'a> DmaBuffer for FrameBuffer<'a> {
 
     ghost owned = { λ b. frame_count (length b.bytes.now) };
 
-    ghost opened = { λ b. record { frame = b } };
+    ghost opened = { frame_opened };
 
-    ghost closed = { λ v. v.frame };
+    ghost closed = { frame_closed };
 
     // Besides what every buffer promises: the law of its count.
     fn prepare(&self) -> Load

@@ -15,7 +15,9 @@ impl Load {
         ensures count { result.count ≡ count }
         ensures owned { result.owned ≡ min owned count }
     {
-        let owned = if owned > count { count } else { owned };
-        Load { count, owned }
+        Load {
+            count,
+            owned: owned.min(count),
+        }
     }
 }

@@ -1,6 +1,6 @@
 // Strips: a buffer in parts, which are taken one at a time while a channel has it.
 ghost use Rattle.std.specs.Prelude.{◌≡◌, min};
-ghost use Rattle.dma.specs.Strips.{strips_opened, one_left, one_taken, TakeLaw, TakesLaw};
+ghost use Rattle.dma.specs.Strips.{strip_count, free_count, buffer_tag, view_tag, strips_opened, one_left, one_taken, strips_closed, TakeLaw, TakesLaw};
 
 use crate::buffer::{DmaBuffer, Tagged, View};
 use crate::load::Load;
@@ -29,9 +29,9 @@ pub struct StripsTaken {
 impl StripBuffer {
     /// A buffer of strips. More free ones than there are counts as all of them.
     pub fn new(strips: u32, free: u32, tag: u32) -> StripBuffer
-        ensures strips { result.load.count ≡ strips }
-        ensures free { result.load.owned ≡ min free strips }
-        ensures tag { result.tag ≡ tag }
+        ensures strips { strip_count result ≡ strips }
+        ensures free { free_count result ≡ min free strips }
+        ensures tag { buffer_tag result ≡ tag }
     {
         StripBuffer {
             load: Load::new(strips, free),
@@ -41,7 +41,7 @@ impl StripBuffer {
 }
 
 impl Tagged for StripBuffer {
-    ghost tag = { λ b. b.tag };
+    ghost tag = { buffer_tag };
 
     fn tag(&self) -> u32 {
         self.tag
@@ -49,7 +49,7 @@ impl Tagged for StripBuffer {
 }
 
 impl Tagged for StripView {
-    ghost tag = { λ v. v.buffer.tag };
+    ghost tag = { view_tag };
 
     fn tag(&self) -> u32 {
         self.buffer.tag
@@ -73,7 +73,7 @@ impl View for StripView {
     fn take(&mut self) -> bool
         ensures answer { result ≡ one_left self.old }
         ensures after { self.new ≡ one_taken self.old }
-        ensures same_tag { self.new.buffer.tag ≡ self.old.buffer.tag }
+        ensures same_tag { view_tag self.new ≡ view_tag self.old }
         ensures law { TakeLaw self.old self.new result }
     {
         if self.taken < self.buffer.load.count {
@@ -90,25 +90,25 @@ impl DmaBuffer for StripBuffer {
 
     type Final = StripsTaken;
 
-    ghost count = { λ b. b.load.count };
+    ghost count = { strip_count };
 
-    ghost owned = { λ b. b.load.owned };
+    ghost owned = { free_count };
 
     ghost opened = { strips_opened };
 
-    ghost closed = { λ v. record { taken = v.taken; tag = v.buffer.tag } };
+    ghost closed = { strips_closed };
 
     fn prepare(&self) -> Load {
         self.load
     }
 
     // Besides what every buffer promises: the law of all calls of `take` that follow.
+    #[tactic(auto, using(crate::proofs::Takes::takes_law))]
     fn into_view(self) -> StripView
         ensures opens { result ≡ strips_opened self }
-        ensures same_tag { result.buffer.tag ≡ self.tag }
+        ensures same_tag { view_tag result ≡ buffer_tag self }
         ensures law { TakesLaw result }
     {
-        takes_go_one_by_one(&self);
         StripView {
             buffer: self,
             taken: 0,
@@ -122,8 +122,3 @@ impl DmaBuffer for StripBuffer {
         }
     }
 }
-
-// From none on, each call of `take` takes one strip until all are taken.
-fn takes_go_one_by_one(buffer: &StripBuffer)
-    ensures { TakesLaw (strips_opened buffer.now) }
-{}

@@ -1,6 +1,9 @@
 // Frames, strips and limits as they come up.
+ghost use Rattle.dma.specs.Answers.{answer_of};
+ghost use Rattle.dma.specs.Table.{DescriptorsAfter, table_descriptors};
+
 use crate::buffer::{DmaBuffer, Tagged, View};
-use crate::channel::Channel;
+use crate::channel::{Channel, Request};
 use crate::counting::CountingChannel;
 use crate::error::DmaError;
 use crate::frame::FrameBuffer;
@@ -26,6 +29,13 @@ fn number(answer: Result<(), DmaError>) -> u32 {
         Ok(()) => 0,
         Err(error) => error.number(),
     }
+}
+
+// Asks a table channel: a caller knows which descriptors that writes.
+fn handled(channel: &mut TableChannel, request: Request) -> Result<(), DmaError>
+    ensures { DescriptorsAfter request (answer_of result) (table_descriptors channel.old) (table_descriptors channel.new) }
+{
+    channel.handle(request)
 }
 
 #[test]
@@ -77,4 +87,18 @@ fn strips_are_taken_once(rt: HostRuntime) {
     let strips = <StripBuffer as DmaBuffer>::from_view(view);
     assert_eq!(rt; strips.taken, 3);
     assert_eq!(rt; strips.tag(), 9);
+}
+
+#[test]
+fn a_refused_load_writes_no_descriptor(rt: HostRuntime) {
+    let mut channel = TableChannel::new();
+    assert_eq!(rt;
+        number(handled(&mut channel, Request::Prepare(Load::new(3, 2)))),
+        0
+    );
+    assert_eq!(rt;
+        number(handled(&mut channel, Request::Prepare(Load::new(257, 257)))),
+        6
+    );
+    assert_eq!(rt; channel.load(), Load::new(3, 2));
 }
