@@ -9,7 +9,7 @@ use crate::words::Words;
 
 /// The words of a side, its control, what is left of a run and how many polls a run takes.
 #[derive(Drop)]
-pub struct SideWords<W> {
+pub(crate) struct SideWords<W> {
     written: W,
     in_force: W,
     pub control: Control,

@@ -1,25 +1,18 @@
 -- The lines that are printed.
 use Rattle.std.specs.Prelude.{ℕ, List, ◌++◌, codes, decimal}
 use Rattle.job.specs.Quotes.{quoted}
-use Rattle.clock.specs.Search.{number}
 use Rattle.job.specs.Evaluated.{Answer}
 use Rattle.job.specs.Evaluated.Answer.{set, refused_by}
-use Rattle.job.specs.declared.error.JobError.{JobError}
-use Rattle.job.specs.declared.error.JobError.TheVariants.{Refused, Unread}
-use Rattle.job.specs.declared.setting.Setting.{Setting}
 use Rattle.job.specs.declared.unreadable.Unreadable.{Unreadable}
 use Rattle.job.specs.declared.unreadable.Unreadable.TheVariants.{UnknownStatement, MissingFrequency, NotANumber, TooLarge, OutOfMemory}
 
-abbrev pub setting_line : Setting → List ℕ
-setting_line s =
+abbrev pub answer_line : Answer → List ℕ
+answer_line (set s) =
     codes "source " ++ (decimal s.index
     ++ (codes " div_num " ++ (decimal s.divider.div_num
     ++ (codes " div_b " ++ (decimal s.divider.div_b
     ++ (codes " div_a " ++ (decimal s.divider.div_a
     ++ (codes " count " ++ (decimal s.count ++ (codes " hertz " ++ decimal s.hertz))))))))))
-
-abbrev pub answer_line : Answer → List ℕ
-answer_line (set s) = setting_line s
 answer_line (refused_by n) = codes "refused " ++ decimal n
 
 -- why a line cannot be read, after `error: `
@@ -29,8 +22,3 @@ reason_text MissingFrequency = codes "clock without a frequency (expected clock 
 reason_text (NotANumber w) = quoted w.now ++ codes " is not a number (expected decimal digits)"
 reason_text (TooLarge w) = quoted w.now ++ codes " is too large (expected at most 4294967295)"
 reason_text OutOfMemory = codes "no memory for this line"
-
--- why a line has no setting
-abbrev pub error_line : JobError → List ℕ
-error_line (Refused e) = answer_line (refused_by (number e))
-error_line (Unread e) = codes "error: " ++ reason_text e

@@ -1,10 +1,10 @@
 -- The reply to a line, by what the line means, and how it is printed.
-use Rattle.std.specs.Prelude.{◌≡◌, ℕ, List, Some, None, Ok, Err, Option, Result}
+use Rattle.std.specs.Prelude.{◌≡◌, ℕ, List, ◌++◌, Some, None, Ok, Err, codes, Option, Result}
 use Rattle.clock.specs.Search.{number}
 use Rattle.job.specs.Evaluated.{Answer, clock_answer}
 use Rattle.job.specs.Evaluated.Answer.{set, refused_by}
 use Rattle.job.specs.Meanings.{TakesMemory}
-use Rattle.job.specs.Printed.{setting_line, error_line}
+use Rattle.job.specs.Printed.{answer_line, reason_text}
 use Rattle.job.specs.Reasons.Reason.{unknown_statement, missing_frequency, not_a_number, too_large}
 use Rattle.job.specs.Statements.{Meaning}
 use Rattle.job.specs.Statements.Meaning.{nothing, clock, unreadable}
@@ -31,5 +31,6 @@ Replies (Err (Unread (TooLarge u))) m = m ≡ unreadable (too_large u.now)
 Replies (Err (Unread OutOfMemory)) m = TakesMemory m
 
 abbrev pub reply_line : Result Setting JobError → List ℕ
-reply_line (Ok s) = setting_line s
-reply_line (Err e) = error_line e
+reply_line (Ok s) = answer_line (set s)
+reply_line (Err (Refused e)) = answer_line (refused_by (number e))
+reply_line (Err (Unread e)) = codes "error: " ++ reason_text e

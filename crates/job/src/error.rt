@@ -1,6 +1,6 @@
 // Why a line has no setting, as it is printed.
-ghost use Rattle.std.specs.Prelude.{◌≡◌, Some};
-ghost use Rattle.job.specs.Printed.{error_line};
+ghost use Rattle.std.specs.Prelude.{◌≡◌, Some, Err};
+ghost use Rattle.job.specs.Replies.{reply_line};
 ghost use Rattle.job.specs.declared.error.JobError.TheVariants.{Refused, Unread};
 
 use crate::unreadable::Unreadable;
@@ -33,7 +33,7 @@ impl<'a> From<Unreadable<'a>> for JobError<'a> {
 }
 
 impl fmt::Display for JobError<'_> {
-    ghost output = { λ e. Some (error_line e) };
+    ghost output = { λ e. Some (reply_line (Err e)) };
 
     fn fmt<W: fmt::Write>(&self, f: &mut fmt::Formatter<W>) -> fmt::Result {
         match self {

@@ -1,6 +1,7 @@
 // What the search sets, as it is printed.
 ghost use Rattle.std.specs.Prelude.{Some};
-ghost use Rattle.job.specs.Printed.{setting_line};
+ghost use Rattle.job.specs.Evaluated.Answer.{set};
+ghost use Rattle.job.specs.Printed.{answer_line};
 
 use clock::divider::ClockDivider;
 use std::fmt;
@@ -16,7 +17,7 @@ pub struct Setting {
 }
 
 impl fmt::Display for Setting {
-    ghost output = { λ s. Some (setting_line s) };
+    ghost output = { λ s. Some (answer_line (set s)) };
 
     fn fmt<W: fmt::Write>(&self, f: &mut fmt::Formatter<W>) -> fmt::Result {
         let Setting {
