@@ -10,7 +10,7 @@ pub enum ImageError {
 }
 
 impl ImageError {
-    /// The number of the refusal.
+    /// The number of the refusal. The crates share no error, so each has this line.
     pub fn number(self) -> u32
         ensures { result ≡ number self }
     {

@@ -16,7 +16,7 @@ pub enum ClockError {
 }
 
 impl ClockError {
-    /// The number of the refusal.
+    /// The number of the refusal. The crates share no error, so each has this line.
     pub fn number(self) -> u32
         ensures { result ≡ number self }
     {

@@ -23,7 +23,7 @@ fn frame_load(heap: Global, len: usize) -> Result<Load, AllocError> {
     Ok(frame.prepare())
 }
 
-// The number of a refusal, or 0.
+// The number of a refusal, or 0: these tests are of the numbers.
 fn number(answer: Result<(), DmaError>) -> u32 {
     match answer {
         Ok(()) => 0,

@@ -37,7 +37,8 @@ pub fn next_word(line: &[u8]) -> Option<(&[u8], &[u8])>
     }
 }
 
-// How many spaces stand in front.
+// How many spaces stand in front. It and `word_len` stay two: written out in `next_word` its proof did not close, and one
+// function over any test would have a longer contract than both.
 fn space_count(line: &[u8]) -> usize
     ensures count { result ≡ prefix_len is_space line.now }
     ensures within { result ≤ length line.now }
