@@ -10,9 +10,6 @@ use crate::sources::Sources;
 pub trait Board {
     ghost meaning: { Self → BoardState };
 
-    // What each `impl` must prove: a run takes one poll or more, or has no end.
-    ghost spans: { (b : Self) → SpansHold (meaning b) };
-
     /// The fields written to a register, and start. It has no effect.
     fn read(&self, register: Register) -> u32
         ensures { result ≡ read register (meaning self.now) };
@@ -30,4 +27,7 @@ pub trait Board {
     /// The sources, which never change.
     fn sources(&self) -> Sources
         ensures { result ≡ (meaning self.now).sources };
+
+    // A run takes one poll or more, or has no end.
+    ghost spans: { (b : Self) → SpansHold (meaning b) };
 }

@@ -13,6 +13,7 @@ use crate::sources::Sources;
 use crate::words::{CameraWords, PanelWords};
 
 /// A board with words of its own.
+// Its sides are of two types, so what a call does to a side is in `SideWords`, and each call here names both.
 #[derive(Drop)]
 pub struct WordBoard {
     sources: Sources,

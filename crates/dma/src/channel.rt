@@ -24,9 +24,6 @@ pub trait Channel {
     // The state that a channel stands for.
     ghost meaning: { Self → ChannelState };
 
-    // What each `impl` must prove: a channel can hold one descriptor at least.
-    ghost least: { (c : Self) → 1 ≤ (meaning c).limit };
-
     /// Does what is asked, or says why not.
     fn handle(&mut self, request: Request) -> Result<(), DmaError>
         ensures answer { answer_of result ≡ answer request (meaning self.old) }
@@ -66,4 +63,7 @@ pub trait Channel {
     {
         self.handle(Request::Stop)
     }
+
+    // A channel can hold one descriptor at least.
+    ghost least: { (c : Self) → 1 ≤ (meaning c).limit };
 }

@@ -15,9 +15,6 @@ pub trait LoadStore {
     // What else a load that is kept makes of a store.
     ghost keeps: { Load → Self → Self → Type 0 };
 
-    // What each `impl` must prove: a store can hold one descriptor at least.
-    ghost least: { (s : Self) → 1 ≤ (meaning s).limit };
-
     /// How many descriptors the store can hold.
     fn limit(&self) -> u32
         ensures { result ≡ (meaning self.now).limit };
@@ -34,4 +31,7 @@ pub trait LoadStore {
         ensures owned { Fits load (meaning self.old) → (meaning self.new).owned ≡ load.owned }
         ensures keeps { Fits load (meaning self.old) → keeps load self.old self.new }
         ensures same_limit { (meaning self.new).limit ≡ (meaning self.old).limit };
+
+    // A store can hold one descriptor at least.
+    ghost least: { (s : Self) → 1 ≤ (meaning s).limit };
 }
