@@ -45,10 +45,7 @@ impl<'a> ImageBoard<'a> {
         ensures words { words_of result ≡ cleaned words.old }
         ensures keeps { KeepsTheRest words.old (words_of result) }
     {
-        ImageBoard {
-            image: ImageWords::over(words),
-            sources,
-        }
+        ImageBoard::made(words, sources)
     }
 
     /// The same over a slice, which `check_image` has accepted.
@@ -58,7 +55,7 @@ impl<'a> ImageBoard<'a> {
         ensures words { words_of result ≡ cleaned words.old }
         ensures keeps { KeepsTheRest words.old (words_of result) }
     {
-        ImageBoard::new(words.as_mut_array().unwrap(), sources)
+        ImageBoard::made(words.as_mut_array().unwrap(), sources)
     }
 
     /// The same over a slice, where it has 34 words. Other words are refused, and nothing is written to them.
@@ -71,7 +68,20 @@ impl<'a> ImageBoard<'a> {
         ensures keeps { IfOk result (λ b. KeepsTheRest words.old (words_of b)) }
     {
         let words = words.as_mut_array().ok_or(ImageError::WrongSize)?;
-        Ok(ImageBoard::new(words, sources))
+        Ok(ImageBoard::made(words, sources))
+    }
+
+    // What the three ways come to. It stands apart, so that a wrong operand is refused there, and not in the proof that
+    // cleaning keeps the board.
+    fn made(words: &'a mut [u32; 34], sources: Sources) -> ImageBoard<'a>
+        ensures holds { image_board result ≡ image sources words.old }
+        ensures words { words_of result ≡ cleaned words.old }
+        ensures keeps { KeepsTheRest words.old (words_of result) }
+    {
+        ImageBoard {
+            image: ImageWords::over(words),
+            sources,
+        }
     }
 }
 
@@ -80,12 +90,12 @@ impl Board for ImageBoard<'_> {
 
     ghost spans = { image_spans };
 
-    #[tactic(auto, unfolding(crate::specs::States::read))]
+    #[tactic(auto, using(crate::proofs::CleanImages::read_is), unfolding(crate::specs::States::read, crate::specs::Images::cleaned))]
     fn read(&self, register: Register) -> u32 {
         self.image.word(register)
     }
 
-    #[tactic(auto, unfolding(crate::specs::States::written))]
+    #[tactic(auto, using(crate::proofs::ImageBoards::write_is, crate::proofs::CleanImages::write_keeps), unfolding(crate::specs::States::written))]
     fn write(&mut self, register: Register, word: u32)
         ensures after { image_board self.new ≡ written register word (image_board self.old) }
         ensures keeps { KeepsTheRest (words_of self.old) (words_of self.new) }

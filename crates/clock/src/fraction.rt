@@ -9,7 +9,8 @@ pub struct Fraction {
     pub denominator: u32,
 }
 
-/// Two terms of the Farey sequence that follow each other: a/b, and then c/d.
+/// Two terms of the Farey sequence that follow each other: a/b, and then c/d. Four numbers, as the Rust has them: the
+/// step from a term to the next is written in them.
 #[derive(Clone, Copy, PartialEq, Eq, Debug)]
 pub struct Neighbours {
     pub a: u32,

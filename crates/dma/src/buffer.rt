@@ -6,7 +6,8 @@ ghost use Rattle.std.specs.Prelude.{◌≡◌, ℕ, Bool};
 
 use crate::load::Load;
 
-// Each type tells a field of its own: a wrapper for both views is no plainer, since a frame's would count takes in vain.
+// The five impls stay: each type tells a field of its own, and a wrapper for both views is no plainer, since a frame's
+// would count takes in vain.
 /// What has a tag.
 pub trait Tagged {
     ghost tag: { Self → ℕ };

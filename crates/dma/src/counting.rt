@@ -13,6 +13,7 @@ pub type CountingChannel = PhasedChannel<CountingStore>;
 #[derive(Drop)]
 pub struct CountingStore {
     limit: u32,
+    // No `Option`: the channel's phase says whether there is one, for this store and for the table, which has no empty load.
     load: Load,
     ghost holds_one: { 1 ≤ limit },
 }

@@ -44,6 +44,7 @@ impl<S: LoadStore> Channel for PhasedChannel<S> {
         ensures after { phased_channel S.meaning self.new ≡ after request (phased_channel S.meaning self.old) }
         ensures store { StoreAfter S.keeps request (answer_of result) (store_of self.old) (store_of self.new) }
     {
+        // One `match` on the phase and the request, as the project wants it: the request is a value that callers hand in.
         match (self.phase, request) {
             (_, Request::Prepare(load)) => {
                 self.phase = Phase::Idle;

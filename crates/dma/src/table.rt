@@ -112,8 +112,8 @@ impl LoadStore for DescriptorTable {
     }
 }
 
-// How many descriptors come before the first that is last. It and `owned_first` stay two: one function over any test
-// would have a longer contract than both.
+// How many descriptors come before the first that is last. It and `owned_first` stay two: written out in `load` its proof
+// did not close, and one function over any test would have a longer contract than both.
 fn before_last(descriptors: &[Descriptor]) -> usize
     ensures value { result ≡ prefix_len (λ d. not d.last) descriptors.now }
     ensures bound { result ≤ length descriptors.now }

@@ -34,7 +34,7 @@ pub fn register_named(registers: &[Register], word: &[u8]) -> Option<Register>
         .find(|register| word == register.name().as_bytes())
 }
 
-/// The side that a word names.
+/// The side that a word names. The names are the script's, so they are not in the crate of `Side`.
 pub fn side_named(word: &[u8]) -> Option<Side>
     ensures { result ≡ side_named word.now }
 {

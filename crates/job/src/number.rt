@@ -28,7 +28,8 @@ fn all_digits(word: &[u8]) -> bool
     word.iter().all(|b| b.is_ascii_digit())
 }
 
-// What the digits write, unless it is too large for the result.
+// What the digits write, unless it is too large for the result. `str::parse` is no plainer: it takes text, so UTF-8 would
+// be looked for first, and it takes a `+`.
 #[tactic(auto, using(crate::proofs::Numerals::digits_here, crate::proofs::Numerals::digit_range, crate::proofs::Numerals::value_on, crate::proofs::Numerals::value_end, crate::proofs::Numerals::value_grows), unfolding(crate::specs::Numbers::value))]
 fn value_of(digits: &[u8]) -> Option<u32>
     requires { IsTrue (numeral «digits».now) }

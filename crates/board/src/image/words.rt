@@ -106,6 +106,7 @@ impl<'a> ImageWords<'a> {
 }
 
 // Takes out the bits that read as 0, start in force and spare mark bits. Words of no register are kept.
+#[tactic(auto, using(crate::proofs::Images::cleaned_more, crate::proofs::Images::cleaned_all, crate::proofs::CleanImages::clean_keeps), unfolding(crate::specs::Images::cleaned))]
 fn clean(words: &mut [u32; 34])
     ensures words { words.new ≡ cleaned words.old }
     ensures keeps { KeepsTheRest words.old words.new }

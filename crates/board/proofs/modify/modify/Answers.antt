@@ -1,3 +1,4 @@
+-- Tried without, and with the lemmas in `using`: the check leaves this open.
 use Rattle.std.proofs.Common.{sym, subst}
 use Rattle.board.proofs.Modifies.{modify_law}
 use Rattle.board.specs.Modifications.{ModifyLaw}

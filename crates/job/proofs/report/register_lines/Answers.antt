@@ -1,3 +1,4 @@
+-- Tried without, and with the lemmas in `using`: the check leaves this open.
 use Rattle.std.proofs.Common.{rules, refl}
 use Rattle.board.specs.Table.{registers}
 use Rattle.board.specs.declared.register.Register.TheVariants.{LcdClock}

@@ -1,3 +1,4 @@
+-- Tried without, and with the lemmas in `using`: the check leaves this open.
 use Rattle.std.proofs.Common.{◌-◌, ◌^◌, ap, ◌∙◌, arith}
 use lib.Bits.{bit_and}
 use Rattle.std.proofs.lemmas.Nat.{one_shl, and_mask, mod_below, pow_pos}

@@ -1,3 +1,4 @@
+-- Tried without, and with the lemmas in `using`: the check leaves this open.
 use Rattle.std.proofs.Common.{arith}
 use Rattle.board.proofs.Parts.{put_fits}
 use Rattle.board.proofs.field.Bits.put.Goals as goal

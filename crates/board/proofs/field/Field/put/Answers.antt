@@ -1,3 +1,4 @@
+-- Tried without, and with the lemmas in `using`: the check leaves this open.
 use Rattle.board.proofs.Puts.{put_law}
 use Rattle.board.proofs.field.Field.put.Goals as goal
 

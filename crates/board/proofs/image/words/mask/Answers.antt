@@ -1,3 +1,4 @@
+-- Tried without, and with the lemmas in `using`: the check leaves this open.
 use Rattle.std.proofs.Common.{sym, arith}
 use Rattle.board.proofs.CleanImages.{mask_kept, mask_of_marks}
 use Rattle.board.proofs.image.words.mask.Goals as goal

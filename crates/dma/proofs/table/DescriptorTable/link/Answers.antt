@@ -1,3 +1,4 @@
+-- Tried without, and with the lemmas in `using`: the check leaves this open.
 use Rattle.std.proofs.Common.{arith}
 use Rattle.std.proofs.lemmas.Grind.{common_steps}
 use Rattle.dma.proofs.Chain.{read_count, read_owned}

@@ -1,3 +1,4 @@
+-- Tried without, and with the lemmas in `using`: the check leaves this open.
 use Rattle.board.specs.Images.{cleaned, masks}
 use Rattle.board.proofs.Images.{masked_set}
 use Rattle.board.proofs.image.words.ImageWords.put.Goals as goal

@@ -1,7 +1,8 @@
+-- Tried without, and with the lemmas in `using`: the check leaves this open.
 use Rattle.std.proofs.Common.{ap, ◌∙◌}
 use Rattle.board.specs.Images.{image}
 use Rattle.board.proofs.CleanImages.{image_cleaned}
-use Rattle.board.proofs.image.ImageBoard.new.Goals as goal
+use Rattle.board.proofs.image.ImageBoard.made.Goals as goal
 
 pub returns-clause-holds : goal.returns-clause-holds
 returns-clause-holds c =
