@@ -26,7 +26,8 @@ impl<'a> Iterator for Words<'a> {
 #[tactic(auto, using(crate::proofs::Cuts::word_cut, crate::proofs::Cuts::no_word))]
 pub fn next_word(line: &[u8]) -> Option<(&[u8], &[u8])>
     ensures cut { MatchOption result (words line.now ≡ []) (λ p. words line.now ≡ p.0.now ∷ words p.1.now) }
-    ensures shorter { IfSome result (λ p. (0 < length p.0.now) × (length p.1.now < length line.now)) }
+    ensures some { IfSome result (λ p. 0 < length p.0.now) }
+    ensures shorter { IfSome result (λ p. length p.1.now < length line.now) }
 {
     let (_, text) = line.split_at(space_count(line));
     let (word, rest) = text.split_at(word_len(text));
