@@ -71,8 +71,8 @@ impl<'a> ImageBoard<'a> {
         Ok(ImageBoard::made(words, sources))
     }
 
-    // What the three ways come to. It stands apart, so that a wrong operand is refused there, and not in the proof that
-    // cleaning keeps the board.
+    // What the three ways come to. It stands apart, so that a wrong operand in one of them is refused in that one, and not
+    // in the proof that cleaning keeps the board.
     fn made(words: &'a mut [u32; 34], sources: Sources) -> ImageBoard<'a>
         ensures holds { image_board result ≡ image sources words.old }
         ensures words { words_of result ≡ cleaned words.old }

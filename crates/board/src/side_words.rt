@@ -13,7 +13,7 @@ pub(crate) struct SideWords<W> {
     written: W,
     in_force: W,
     pub control: Control,
-    // No `Option` of a run: the rules keep what is left of one where start is 0, too.
+    // No `Option` of a run: `control` is answered whole, with its `start`, so one would say start a second time.
     left: u32,
     span: u32,
     ghost some: { 1 ≤ span },

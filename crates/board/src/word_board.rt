@@ -1,7 +1,5 @@
 // The word board: a board with words of its own, whose runs take a chosen number of polls.
-ghost use Rattle.std.specs.Prelude.{◌≡◌, not};
-ghost use Rattle.board.specs.Registers.{side};
-ghost use Rattle.board.specs.States.{read_on, written_on, polled_on, control_of};
+ghost use Rattle.std.specs.Prelude.{◌≡◌};
 ghost use Rattle.board.specs.WordBoards.{word_board, word_spans, new_board, chosen_span};
 
 use crate::control::{Control, with_start};

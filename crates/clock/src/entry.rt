@@ -1,10 +1,9 @@
 // The search for callers in C and Rust: numbers in, one packed number out.
-ghost use Rattle.std.specs.Prelude.{◌≡◌, ℕ, ◌<◌};
+ghost use Rattle.std.specs.Prelude.{◌≡◌, ◌<◌};
 ghost use Rattle.clock.specs.Laws.{SearchLaw, FitsFields};
 ghost use Rattle.clock.specs.Packed.{lcd_cam_sources, packed, unpacked};
 ghost use Rattle.clock.specs.Search.{searched};
 ghost use Rattle.clock.specs.Search.Answer.{setting};
-ghost use Rattle.clock.specs.declared.divider.ClockDivider.{ClockDivider as Divider};
 
 use crate::divider::ClockDivider;
 use crate::search::calculate_clkm;

@@ -6,8 +6,8 @@ ghost use Rattle.std.specs.Prelude.{◌≡◌, ℕ, Bool};
 
 use crate::load::Load;
 
-// The five impls stay: each type tells a field of its own, and a wrapper for both views is no plainer, since a frame's
-// would count takes in vain.
+// The five impls stay: each type tells a field of its own, and one wrapper for both views would be no plainer: the one
+// around a frame would count takes in vain.
 /// What has a tag.
 pub trait Tagged {
     ghost tag: { Self → ℕ };

@@ -25,7 +25,7 @@ pub trait LoadStore {
         ensures owned { result.owned ≡ (meaning self.now).owned };
 
     /// Keeps a load in the place of the last one, where it has a descriptor and no more than the limit. Of a load that does
-    /// not fit nothing is promised.
+    /// not fit only that the limit stays is promised.
     fn keep(&mut self, load: Load)
         ensures count { Fits load (meaning self.old) → (meaning self.new).count ≡ load.count }
         ensures owned { Fits load (meaning self.old) → (meaning self.new).owned ≡ load.owned }

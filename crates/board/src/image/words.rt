@@ -1,5 +1,5 @@
 // The 34 words of an image.
-ghost use Rattle.std.specs.Prelude.{◌≡◌, ◌+◌, ◌<◌, ◌≤◌, length, bit_and, slice_index, slice_set};
+ghost use Rattle.std.specs.Prelude.{◌≡◌, ◌+◌, ◌<◌, length, bit_and, slice_index, slice_set};
 ghost use Rattle.board.specs.Fields.{stored};
 ghost use Rattle.board.specs.Images.{cleaned, masks, read_mask, mark_place, control_in, stored_in, put_in_force, image_written, KeepsTheRest};
 ghost use Rattle.board.specs.Registers.{index, side};
