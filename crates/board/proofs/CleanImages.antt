@@ -1,5 +1,5 @@
 -- A clean image stays clean, reads as it is, and words of no register are kept.
-use Rattle.std.proofs.Common.{◌≡◌, ℕ, zero, suc, ◌+◌, ◌*◌, ◌/◌, ◌%◌, ◌^◌, ◌<◌, ◌≤◌, Bool, true, false, cond, eqb, ◌⊎◌, List, [], ◌∷◌, length, get_or, sym, refl, ap, ◌∙◌, ap₂, inl, inr, ⊎_elim, le_of_suc-le-suc, not-suc-le-zero, zero-add, mod-eq_of_lt, arith, map, take, drop, set, ◌-◌}
+use Rattle.std.proofs.Common.{◌≡◌, ℕ, zero, suc, ◌+◌, ◌/◌, ◌%◌, ◌^◌, ◌<◌, ◌≤◌, Bool, cond, eqb, ◌⊎◌, List, [], ◌∷◌, length, get_or, sym, refl, ap, ◌∙◌, ap₂, inl, inr, ⊎_elim, le_of_suc-le-suc, not-suc-le-zero, zero-add, mod-eq_of_lt, arith, map, drop, set, ◌-◌}
 use mathlib.Core.Path.{fun_ext}
 use lib.Bits.{bit_and, and_mask}
 use Rattle.std.proofs.lemmas.Nat.{mod_below, field_of}
@@ -20,7 +20,6 @@ use Rattle.board.specs.Registers.{index, side, first, side_registers}
 use Rattle.board.specs.States.{with_start, read_on}
 use Rattle.board.specs.Table.{registers}
 use Rattle.board.specs.contracts.register.Register as regs
-use Rattle.board.specs.declared.control.Control.{Control}
 use Rattle.board.specs.Words.{panel_words, camera_words}
 use Rattle.board.specs.declared.field.Field.TheVariants.{LcdStart, CamStart}
 use Rattle.board.specs.declared.register.Register.{Register}

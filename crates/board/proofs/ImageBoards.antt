@@ -5,7 +5,7 @@ use Rattle.board.specs.Controls.{requested, controlled}
 use Rattle.board.specs.Fields.{stored}
 use Rattle.board.specs.Images.{control_in, control_after, endless_side, stored_from, image, image_written}
 use Rattle.board.specs.Registers.{side, same_register}
-use Rattle.board.specs.States.{SideState, side_written, side_polled, written_on, polled_on}
+use Rattle.board.specs.States.{SideState, side_written, written_on}
 use Rattle.board.specs.Words.{panel_words, camera_words, panel_word, camera_word, replaced}
 use Rattle.board.specs.declared.control.Control.{Control}
 use Rattle.board.specs.declared.register.Register.{Register}
