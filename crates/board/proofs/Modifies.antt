@@ -1,5 +1,5 @@
 -- The law of a change of one field.
-use Rattle.std.proofs.Common.{◌≡◌, ℕ, ◌-◌, ◌/◌, ◌%◌, ◌^◌, Bool, true, false, cond, eqb, sym, refl, ap, ◌∙◌, inl, inr}
+use Rattle.std.proofs.Common.{IsTrue, ◌≢◌, ◌≡◌, ℕ, ◌-◌, ◌/◌, ◌%◌, ◌^◌, Bool, true, false, cond, eqb, sym, refl, ap, ◌∙◌, inl, inr}
 use lib.Bits.{bit_and, and_mask, and_zero_r}
 use native.Mathlib.Nat.{mod-mod}
 use Rattle.std.proofs.lemmas.Bool.{cases_Bool, eqb-true, eq-eqb, false≢true}
@@ -10,7 +10,7 @@ use Rattle.board.proofs.Puts.{put_law}
 use Rattle.board.proofs.Variants.{each, number}
 use Rattle.board.specs.Controls.{requested}
 use Rattle.board.specs.Fields.{part, field, put, bit, stores, stored, stored_mask}
-use Rattle.board.specs.Modifications.{written_field, modified, ModifyLaw}
+use Rattle.board.specs.Modifications.{written_field, field_in_force, modified}
 use Rattle.board.specs.Registers.{index, side, same_register}
 use Rattle.board.specs.States.{BoardState, read, written, written_on, word_on, written_word, word_in_force}
 use Rattle.board.specs.Table.{place}
@@ -128,7 +128,7 @@ no_update f v CamCtrl1 b e other = refl
 no_update f v CamRgbYuv b e other = refl
 
 -- every other field stays
-others : (f : Field) (v : ℕ) (b : BoardState) (g : Field) → (g ≡ f → ⊥) → written_field g (modified f v b) ≡ written_field g b
+pub others : (f : Field) (v : ℕ) (b : BoardState) (g : Field) → (g ≡ f → ⊥) → written_field g (modified f v b) ≡ written_field g b
 others f v b g ne = ap (field g) (word_after (place g).register (place f).register (put f v (read (place f).register b)) b) ∙ by (same_register (place g).register (place f).register) refl
   where
     kept_or_not : (t : Bool) → stores (place g).role ≡ t → (place g).register ≡ (place f).register
@@ -150,7 +150,7 @@ others f v b g ne = ap (field g) (word_after (place g).register (place f).regist
         ∙ kept_or_not (stores (place g).role) refl same
     by false e = refl
 
-sources : (f : Field) (v : ℕ) (b : BoardState) → (modified f v b).sources ≡ b.sources
+pub sources : (f : Field) (v : ℕ) (b : BoardState) → (modified f v b).sources ≡ b.sources
 unfolding written
 sources f v b = by (side (place f).register)
   where
@@ -158,15 +158,22 @@ sources f v b = by (side (place f).register)
     by Panel = refl
     by Camera = refl
 
-pub modify_law : (f : Field) (v : ℕ) (b : BoardState) → ModifyLaw f v b (modified f v b)
-modify_law f v b =
+-- a setting has the value, cut to the field
+pub value_put : (f : Field) (v : ℕ) (b : BoardState)
+    → IsTrue (stores (place f).role) → written_field f (modified f v b) ≡ v % 2 ^ (place f).width
+value_put f v b kept =
     let r = (place f).register in
     let w = put f v (read r b) in
-    record {
-      has_the_value = λ kept.
-          ap (field f) (word_after r r w b ∙ ap (λ t. cond t (stored r w) (written_word r b)) (eq-eqb (index r) (index r) refl))
-          ∙ field_stored f w ∙ ap (λ t. cond t (field f w) 0) kept ∙ (put_law f v (read r b)).reads_back;
-      others_stay = λ g ne. others f v b g ne;
-      in_force_stays = λ other g. ap (field g) (force_after (place g).register r w b (no_update f v r b refl other));
-      same_sources = sources f v b;
-    }
+    ap (field f) (word_after r r w b ∙ ap (λ t. cond t (stored r w) (written_word r b)) (eq-eqb (index r) (index r) refl))
+    ∙ field_stored f w ∙ ap (λ t. cond t (field f w) 0) kept ∙ (put_law f v (read r b)).reads_back
+
+-- what is in force stays, but for update
+pub force_stays : (f : Field) (v : ℕ) (b : BoardState)
+    → ((place f).role ≢ Update) → (g : Field) → field_in_force g (modified f v b) ≡ field_in_force g b
+force_stays f v b other g =
+    let r = (place f).register in
+    let w = put f v (read r b) in
+    ap (field g) (force_after (place g).register r w b (no_update f v r b refl other))
+
+-- the four of `ModifyLaw`
+pub ruleset modify_law = (value_put, others, force_stays, sources)
