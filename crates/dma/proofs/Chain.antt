@@ -1,5 +1,5 @@
 -- Descriptors one by one: a load written into them, and read back.
-use Rattle.std.proofs.Common.{◌≡◌, ℕ, ◌+◌, ◌-◌, ◌≤◌, List, [], ◌∷◌, length, min, not, refl, arith}
+use Rattle.std.proofs.Common.{◌≡◌, ℕ, zero, suc, ◌+◌, ◌-◌, ◌≤◌, Bool, List, [], ◌∷◌, length, min, not, take, refl, arith}
 use Rattle.std.proofs.lemmas.List.{at_drop_more, at_drop_all}
 use Rattle.std.proofs.lemmas.List.Sums.{prefix_len_is, prefix_len_passes, prefix_len_stops}
 use Rattle.std.specs.List.{prefix_len}
@@ -28,6 +28,13 @@ pub chain_owned_first : (ds : List Descriptor) →
     chain_owned ds ≡ min (prefix_len (λ d. is_dma d.owner) ds) (chain_count ds)
 chain_owned_first [] = refl
 chain_owned_first (d ∷ ds) = let rest = chain_owned_first ds in grind (arith, nat_tests)
+
+-- of the first n elements as many pass in front as of all, and n at most
+pub prefix_within : {X : Type 0} (p : X → Bool) (xs : List X) (n : ℕ) → prefix_len p (take n xs) ≡ min (prefix_len p xs) n
+prefix_within p [] zero = refl
+prefix_within p [] (suc n) = omega arith
+prefix_within p (x ∷ xs) zero = omega arith
+prefix_within p (x ∷ xs) (suc n) = let rest = prefix_within p xs n in grind (arith, nat_tests)
 
 -- a load that stands in the first descriptors is read from them
 module _ (count owned : ℕ) (ds : List Descriptor) (chain : Chained count owned ds) (some : 1 ≤ count) (fits : count ≤ length ds) where

@@ -1,7 +1,7 @@
 // A channel that holds a table of descriptors.
 ghost use Rattle.std.specs.Prelude.{◌≡◌, ◌<◌, ◌≤◌, length, not, replicate};
 ghost use Rattle.std.specs.List.{prefix_len};
-ghost use Rattle.dma.specs.Chains.{chain_count, chain_owned, is_dma, linked, unlinked, OneByOne, Written};
+ghost use Rattle.dma.specs.Chains.{chain_count, chain_owned, is_dma, linked, unlinked, OneByOne, ReadsBack, Written};
 ghost use Rattle.dma.specs.States.{idle_channel};
 
 use crate::load::Load;
@@ -71,10 +71,12 @@ impl DescriptorTable {
     }
 
     // Writes a load into the first descriptors, which then say it.
+    #[tactic(auto, using(crate::proofs::Chain::reads_back))]
     fn link(&mut self, load: Load)
         ensures count { 1 ≤ load.count → load.count ≤ 256 → chain_count self.new.descriptors ≡ load.count }
         ensures owned { 1 ≤ load.count → load.count ≤ 256 → chain_owned self.new.descriptors ≡ load.owned }
         ensures written { load.count ≤ 256 → Written load.count load.owned self.old.descriptors self.new.descriptors }
+        ensures law { ReadsBack load.count load.owned self.new.descriptors }
     {
         for (place, descriptor) in self.descriptors.iter_mut().enumerate() {
             // Not `.take(..)` on the loop, after which the proof knows nothing of the descriptors.
@@ -100,11 +102,15 @@ impl LoadStore for DescriptorTable {
         256
     }
 
-    #[tactic(auto, using(crate::proofs::Chain::chain_counted, crate::proofs::Chain::chain_owned_first))]
+    #[tactic(auto, using(crate::proofs::Chain::chain_counted, crate::proofs::Chain::chain_owned_first, crate::proofs::Chain::prefix_within))]
     fn load(&self) -> Load {
         let count = (before_last(&self.descriptors) + 1).min(256);
-        let owned = owned_first(&self.descriptors);
-        Load::new(count as u32, owned as u32)
+        // Only of the chain: what stands past it may be left of a longer one.
+        let owned = owned_first(&self.descriptors[..count]);
+        Load {
+            count: count as u32,
+            owned: owned as u32,
+        }
     }
 
     fn keep(&mut self, load: Load) {
