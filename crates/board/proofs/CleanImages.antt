@@ -1,9 +1,9 @@
 -- A clean image stays clean, reads as it is, and words of no register are kept.
-use Rattle.std.proofs.Common.{◌≡◌, ℕ, zero, suc, ◌+◌, ◌/◌, ◌%◌, ◌^◌, ◌<◌, ◌≤◌, Bool, cond, eqb, ◌⊎◌, List, [], ◌∷◌, length, get_or, sym, refl, ap, ◌∙◌, ap₂, inl, inr, ⊎_elim, le_of_suc-le-suc, not-suc-le-zero, zero-add, mod-eq_of_lt, arith, map, drop, set, ◌-◌}
+use Rattle.std.proofs.Common.{◌≡◌, ℕ, zero, suc, ◌+◌, ◌*◌, ◌/◌, ◌%◌, ◌^◌, ◌<◌, ◌≤◌, Bool, true, false, cond, eqb, ◌⊎◌, List, [], ◌∷◌, length, get_or, sym, refl, ap, ◌∙◌, ap₂, inl, inr, ⊎_elim, le_of_suc-le-suc, not-suc-le-zero, zero-add, mod-eq_of_lt, arith, map, drop, set}
 use mathlib.Core.Path.{fun_ext}
 use lib.Bits.{bit_and, and_mask}
 use Rattle.std.proofs.lemmas.Nat.{mod_below, field_of}
-use Rattle.std.proofs.lemmas.Bool.{cases_eq, eqb-true, ne_eqb}
+use Rattle.std.proofs.lemmas.Bool.{eqb-true, ne_eqb}
 use Rattle.std.proofs.lemmas.Bool.Decides.{nat_tests}
 use Rattle.std.proofs.lemmas.List.{get_or-map, get_or-take, get_or-drop}
 use Rattle.std.proofs.lemmas.List.FromFn.{get_or-range_with_len}
@@ -21,6 +21,7 @@ use Rattle.board.specs.States.{with_start, read_on}
 use Rattle.board.specs.Table.{registers}
 use Rattle.board.specs.contracts.register.Register as regs
 use Rattle.board.specs.Words.{panel_words, camera_words}
+use Rattle.board.specs.declared.control.Control.{Control}
 use Rattle.board.specs.declared.field.Field.TheVariants.{LcdStart, CamStart}
 use Rattle.board.specs.declared.register.Register.{Register}
 use Rattle.board.specs.declared.register.Register.TheVariants.{LcdClock, LcdUser, CamCtrl1}
@@ -40,6 +41,15 @@ read_mask_at r = eqb-true _ _ (each regs.enum (λ q. eqb (get_or masks (index q)
 stored_mask_at : (r : Register) → get_or masks (16 + index r) 0 ≡ stored_mask r
 stored_mask_at r = eqb-true _ _ (each regs.enum (λ q. eqb (get_or masks (16 + index q) 0) (stored_mask q)) refl r)
 
+marks_pass : (c : Control) → bit_and (marks c) 3 ≡ marks c
+marks_pass c = by c.reset c.afifo_reset
+  where
+    by : (a b : Bool) → bit_and (bit a + 2 * bit b) 3 ≡ bit a + 2 * bit b
+    by true true = refl
+    by true false = refl
+    by false true = refl
+    by false false = refl
+
 mark_mask : (s : Side) → get_or masks (mark_place s) 0 ≡ 3
 mark_mask Panel = refl
 mark_mask Camera = refl
@@ -47,6 +57,9 @@ mark_mask Camera = refl
 -- the word of a register, and the marks, at their places
 pub stored_passes : (r : Register) (b : Bool) (w : ℕ) → bit_and (with_start r b (stored r w)) (get_or masks (index r) 0) ≡ with_start r b (stored r w)
 stored_passes r b w = ap (λ m. bit_and (with_start r b (stored r w)) m) (read_mask_at r) ∙ word_passes r b w
+
+pub marks_pass_there : (r : Register) (c : Control) → bit_and (marks c) (get_or masks (mark_place (side r)) 0) ≡ marks c
+marks_pass_there r c = ap (λ m. bit_and (marks c) m) (mark_mask (side r)) ∙ marks_pass c
 
 -- the registers stand at their places, all of them and those of a side
 place_is : (i : ℕ) → i < 12 → index (get_or registers i LcdClock) ≡ i
@@ -72,23 +85,6 @@ one_more_in_force s i ws now h same =
     ap (λ m. set now (16 + index r) (bit_and (get_or now (index r) 0) m)) (sym (stored_mask_at r))
     ∙ ap (λ k. set now (16 + k) (bit_and (get_or now k 0) (get_or masks (16 + k) 0))) (place_on s i h)
     ∙ in_force_more i (first s) ws now (omega (arith, side_ends s)) same
-
--- the bits of each word of an image that may be 1
-pub mask_in_force : (i : ℕ) → 16 ≤ i → i < 28 → get_or masks i 0 ≡ stored_mask (get_or registers (i - 16) LcdClock)
-mask_in_force i low high =
-    let place : i ≡ 16 + index (get_or registers (i - 16) LcdClock) = omega (arith, place_is (i - 16) (omega arith)) in
-    ap (λ k. get_or masks k 0) place ∙ stored_mask_at (get_or registers (i - 16) LcdClock)
-
-pub mask_kept : (i : ℕ) → 28 ≤ i → i < 32 → get_or masks i 0 ≡ 2 ^ 32 - 1
-mask_kept i low high = kept_mask i (inr (low, high))
-
-pub mask_of_marks : (i : ℕ) → 32 ≤ i → i < 34 → get_or masks i 0 ≡ 3
-mask_of_marks i low high = elim (cases_eq i 32) [
-  | inl panel ↦ ap (λ k. get_or masks k 0) panel
-  | inr other ↦
-      let camera : i ≡ 33 = omega arith in
-      ap (λ k. get_or masks k 0) camera
-]
 
 pub in_force_passes : (r : Register) (w : ℕ) → bit_and (stored r w) (get_or masks (16 + index r) 0) ≡ stored r w
 in_force_passes r w = ap (λ m. bit_and (stored r w) m) (stored_mask_at r) ∙ and_twice w (stored_mask r)
@@ -151,7 +147,7 @@ clean_keeps ws whole fits k place =
     ∙ mod-eq_of_lt (fits k)
 
 -- cleaning twice is cleaning once
-masked_twice : (ms ws : List ℕ) → masked ms (masked ms ws) ≡ masked ms ws
+pub masked_twice : (ms ws : List ℕ) → masked ms (masked ms ws) ≡ masked ms ws
 masked_twice [] ws = refl
 masked_twice (m ∷ ms) [] = refl
 masked_twice (m ∷ ms) (w ∷ ws) = ap₂ (λ x xs. x ∷ xs) (and_twice w m) (masked_twice ms ws)
@@ -206,7 +202,7 @@ module _ (s : Sources) (ws : List ℕ) (whole : length ws ≡ 34) where
       ∙ ap₂ (λ a b. record { start = start_in x ws; reset = eqb a 1; afifo_reset = eqb b 1 }) low high
 
   -- cleaning changes nothing of the board that an image holds
-  clean_holds : image s clean ≡ image s ws
+  pub clean_holds : image s clean ≡ image s ws
   clean_holds =
       ap₂ (λ p k. record { sources = s; panel = p; camera = k })
       (same_side (ap panel_words (fun_ext written_same)) (ap panel_words (fun_ext force_same)) (control_same Panel))

@@ -67,6 +67,9 @@ placed q =
 pub index_small : (q : Register) → index q < 12
 index_small q = ltb-true _ _ (each regs.enum (λ r. ltb (index r) 12) refl q)
 
+pub index_within : (q : Register) → index q < 34
+index_within q = omega (arith, index_small q)
+
 pub mark_within : (q : Register) → mark_place (side q) < 34
 mark_within q = ltb-true _ _ (each regs.enum (λ r. ltb (mark_place (side r)) 34) refl q)
 

@@ -9,6 +9,9 @@ module _ (low width value word : ℕ) where
   pub split : word ≡ word / 2 ^ (width + low) * 2 ^ (width + low) + (part low width word * 2 ^ low + word % 2 ^ low)
   split = omega (arith, shr_split word (width + low), mod-pow-add word width low)
 
+  pub part_within : part low width word * 2 ^ low ≤ word
+  part_within = omega (arith, split)
+
   pub put_split : put_part low width value word ≡ word / 2 ^ (width + low) * 2 ^ (width + low) + (value % 2 ^ width * 2 ^ low + word % 2 ^ low)
   put_split = omega (arith, split)
 

@@ -156,6 +156,9 @@ macro_rules! at {
 
 impl Field {
     /// Where the field lies, and what it is for.
+    // Taken into its callers, as are `get`, `put` and `bits`: where the source names the field, or chooses between two, the
+    // place is then known when it is compiled, and no look-up.
+    #[inline(always)]
     pub fn place(self) -> Place
         ensures { result ≡ place self }
     {
@@ -267,6 +270,7 @@ impl Field {
     }
 
     /// The value of the field in a word of its register.
+    #[inline(always)]
     pub fn get(self, word: u32) -> u32
         ensures value { result ≡ field self word }
         ensures cut { result < 2 ^ (place self).width }
@@ -276,6 +280,7 @@ impl Field {
     }
 
     /// A word with the field put to a value, which is cut to the field.
+    #[inline(always)]
     pub fn put(self, word: u32, value: u32) -> u32
         ensures value { result ≡ put self value word }
         ensures law { PutLaw self value word }
@@ -283,6 +288,7 @@ impl Field {
         self.bits().put(word, value)
     }
 
+    #[inline(always)]
     fn bits(self) -> Bits
         ensures low { result.low ≡ (place self).low }
         ensures width { result.width ≡ (place self).width }

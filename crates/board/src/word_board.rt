@@ -40,12 +40,18 @@ impl Board for WordBoard {
 
     #[tactic(auto, unfolding(crate::specs::States::read))]
     fn read(&self, register: Register) -> u32 {
-        let side = register.side();
-        let word = match side {
-            Side::Panel => self.panel.written(register),
-            Side::Camera => self.camera.written(register),
-        };
-        with_start(register, self.control(side).start, word)
+        match register.side() {
+            Side::Panel => with_start(
+                register,
+                self.panel.control.start,
+                self.panel.written(register),
+            ),
+            Side::Camera => with_start(
+                register,
+                self.camera.control.start,
+                self.camera.written(register),
+            ),
+        }
     }
 
     #[tactic(auto, unfolding(crate::specs::States::written))]

@@ -1,11 +1,51 @@
 // The 34 words of an image.
 ghost use Rattle.std.specs.Prelude.{◌≡◌, ◌+◌, ◌<◌, length, bit_and, slice_index, slice_set};
 ghost use Rattle.board.specs.Fields.{stored};
-ghost use Rattle.board.specs.Images.{cleaned, masks, read_mask, mark_place, control_in, stored_in, put_in_force, image_written, KeepsTheRest};
+ghost use Rattle.board.specs.Images.{cleaned, masks, mark_place, control_in, stored_in, put_in_force, image_written, KeepsTheRest};
 ghost use Rattle.board.specs.Registers.{index, side};
 
 use crate::control::{Control, Request, flag, start_field, with_start};
-use crate::register::{REGISTERS, Register, Side};
+use crate::register::{Register, Side};
+
+// The bits of each word that may be 1: those of the words as they are read, of the words in force, and of the marks. The
+// contract of `mask` says that they are those of the registers. They are written out, since asking each register for its
+// mask takes many times as long.
+const MASKS: [u32; 34] = [
+    0xffff_ffff,
+    0xefe8_2000,
+    0xf7ff_fffe,
+    0xffff_ffff,
+    0xffff_ffff,
+    0xffff_03ff,
+    0x8000_0000,
+    0x0000_00ff,
+    0xffff_ffff,
+    0x7fff_ffef,
+    0x3fff_ffff,
+    0x8000_0000,
+    0xffff_ffff,
+    0xffff_ffff,
+    0xffff_ffff,
+    0xffff_ffff,
+    0xffff_ffff,
+    0xe7e8_2000,
+    0xf7ff_fffe,
+    0xffff_ffff,
+    0xffff_ffff,
+    0xffff_03ff,
+    0x8000_0000,
+    0x0000_00ff,
+    0xffff_ffff,
+    0x7fff_ffef,
+    0x1fff_ffff,
+    0x8000_0000,
+    0xffff_ffff,
+    0xffff_ffff,
+    0xffff_ffff,
+    0xffff_ffff,
+    3,
+    3,
+];
 
 /// The words of an image, where each bit that reads as 0 is 0, as are start in force and spare mark bits.
 #[derive(Drop)]
@@ -117,24 +157,11 @@ fn clean(words: &mut [u32; 34])
 }
 
 // The bits of a word that may be 1. Words of no register have all of them.
-#[tactic(auto, using(crate::proofs::CleanImages::mask_in_force))]
 fn mask(i: usize) -> u32
     requires { i < 34 }
     ensures { result ≡ slice_index masks i }
 {
-    match i {
-        0..12 => read_mask(REGISTERS[i]),
-        16..28 => REGISTERS[i - 16].stored_mask(),
-        32.. => 3,
-        _ => u32::MAX,
-    }
-}
-
-// The bits that a read of a register can answer with 1: those that it stores, and start.
-fn read_mask(register: Register) -> u32
-    ensures { result ≡ read_mask register }
-{
-    with_start(register, true, register.stored_mask())
+    MASKS[i]
 }
 
 // Where the marks of a side stand.
