@@ -28,9 +28,22 @@ pub fn next_line<R: BufRead>(input: &mut R, line: &mut Vec<u8>) -> io::Result<Li
         Ok(_) => Ok(Line::Whole),
         Err(e) if e.kind() == ErrorKind::OutOfMemory => {
             line.clear();
-            input.skip_until(b'\n')?;
+            skip_line(input)?;
             Ok(Line::TooLong)
         }
         Err(e) => Err(e),
     }
+}
+
+// Skips the rest of a line, and goes on where a read finds no memory in its turn. A loop that counts nothing would take a
+// handle to wait, which no function here may.
+fn skip_line<R: BufRead>(input: &mut R) -> io::Result<()> {
+    for _ in 0..u64::MAX {
+        match input.skip_until(b'\n') {
+            Ok(_) => return Ok(()),
+            Err(e) if e.kind() == ErrorKind::OutOfMemory => {}
+            Err(e) => return Err(e),
+        }
+    }
+    Ok(())
 }
