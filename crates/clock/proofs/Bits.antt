@@ -1,10 +1,10 @@
--- A packed setting reads back where its numbers fit their bits.
-use Rattle.std.proofs.Common.{◌≡◌, ℕ, ◌+◌, ◌-◌, ◌*◌, ◌/◌, ◌%◌, ◌^◌, ◌<◌, false, leb, sym, ap, ◌∙◌, mod-eq_of_lt, arith}
-use Rattle.std.proofs.lemmas.Bool.{lt-leb}
+-- A packed setting reads back where its numbers fit their bits, and a packed refusal always.
+use Rattle.std.proofs.Common.{◌≡◌, ℕ, ◌+◌, ◌-◌, ◌*◌, ◌/◌, ◌%◌, ◌^◌, ◌<◌, true, false, leb, sym, ap, ◌∙◌, mod-eq_of_lt, arith}
+use Rattle.std.proofs.lemmas.Bool.{le-leb, lt-leb}
 use Rattle.clock.specs.Laws.{FitsFields}
 use Rattle.clock.specs.Packed.{lcd_cam_sources, packed, unpacked}
 use Rattle.clock.specs.Search.{searched}
-use Rattle.clock.specs.Search.Answer.{setting}
+use Rattle.clock.specs.Search.Answer.{setting, refused}
 use Rattle.clock.specs.declared.divider.ClockDivider.{ClockDivider}
 use Rattle.clock.proofs.Sources.{search_law}
 
@@ -31,6 +31,12 @@ setting_reads i d lt fits =
     let above_a : w / 2 ^ 20 ≡ i + 1 = omega arith in
     let ei : w / 2 ^ 20 % 2 ^ 2 - 1 ≡ i = ap (λ (q : ℕ). q % 2 ^ 2 - 1) above_a ∙ two_bits i lt in
     rw test (λ k. setting (ei k) (record { div_num = en k; div_b = eb k; div_a = ea k }))
+
+pub refused_reads : (n : ℕ) → unpacked (packed (refused n)) ≡ refused n
+refused_reads n =
+    let test : leb (2 ^ 31) (2 ^ 31 + n) ≡ true = le-leb _ _ (omega arith) in
+    let en : 2 ^ 31 + n - 2 ^ 31 ≡ n = omega arith in
+    rw test (ap refused en)
 
 -- the setting that the rules give for three sources fits
 pub three_fit : (r x y z i : ℕ) (d : ClockDivider) → setting i d ≡ searched r (lcd_cam_sources x y z) → (i < 3) × FitsFields d

@@ -4,7 +4,7 @@ use Rattle.std.specs.List.{prefix_len}
 use Rattle.job.specs.Words.{words_after, words, is_space, is_other}
 
 -- a space brings no word
-space_first : (b : ℕ) (bs : List ℕ) → is_space b ≡ true → words (b ∷ bs) ≡ words bs
+pub space_first : (b : ℕ) (bs : List ℕ) → is_space b ≡ true → words (b ∷ bs) ≡ words bs
 unfolding words
 space_first b bs e = rw e refl
 
@@ -39,7 +39,7 @@ no_word (b ∷ bs) zero none is = none_first b bs (is_space b) refl is none
 no_word (b ∷ bs) (suc k) none is = none_after b bs k (is_space b) refl is (no_word bs k none)
 
 -- what has been read of a word goes on up to the next space
-abbrev Goes : List ℕ → List ℕ → ℕ → Type 0
+abbrev pub Goes : List ℕ → List ℕ → ℕ → Type 0
 Goes w bs n = words_after w bs ≡ (w ++ take n bs) ∷ words (drop n bs)
 
 ends_here : (w : List ℕ) (b : ℕ) (bs : List ℕ) (s : Bool) → 0 < length w → is_space b ≡ s
@@ -58,7 +58,7 @@ goes_on w b bs n false e is rest =
     let joined : (w ++ (b ∷ [])) ++ take n bs ≡ w ++ (b ∷ take n bs) = append_assoc w (b ∷ []) (take n bs) in
     step ∙ rest (omega arith) ∙ ap (λ (x : List ℕ). x ∷ words (drop n bs)) joined
 
-goes : (w bs : List ℕ) (n : ℕ) → n ≡ prefix_len is_other bs → 0 < length w + n → Goes w bs n
+pub goes : (w bs : List ℕ) (n : ℕ) → n ≡ prefix_len is_other bs → 0 < length w + n → Goes w bs n
 unfolding words
 goes [] [] n is some = absurd (omega arith)
 goes (c ∷ w) [] zero is some = rw append-nil refl
