@@ -136,7 +136,7 @@ pub(crate) fn with_start(register: Register, start: bool, word: u32) -> u32
     }
 }
 
-/// The field of a side that begins and ends its runs. It is taken into its callers, and so is where it lies.
+/// The field of a side that begins and ends its runs. It is inlined, so that its place is known in the caller.
 #[inline(always)]
 pub(crate) fn start_field(side: Side) -> Field
     ensures { result ≡ start_field side }

@@ -156,8 +156,8 @@ macro_rules! at {
 
 impl Field {
     /// Where the field lies, and what it is for.
-    // Taken into its callers, as are `get`, `put` and `bits`: where the source names the field, or chooses between two, the
-    // place is then known when it is compiled, and no look-up.
+    // Inlined, as are `get`, `put` and `bits`: where the source names the field, or chooses between two, its place is then
+    // known when the caller is compiled, and is not looked up.
     #[inline(always)]
     pub fn place(self) -> Place
         ensures { result ≡ place self }
